@@ -1,0 +1,4 @@
+pub mod WrittenLaws
+pub mod ConsumedLaws
+pub mod ReadSoFar
+pub mod AppendedLaws

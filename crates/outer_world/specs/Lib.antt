@@ -1,0 +1,7 @@
+pub mod Causes
+pub mod Written
+pub mod Reading
+pub mod Failing
+pub mod SinkState
+pub mod FilesState
+pub mod DiskCounts
