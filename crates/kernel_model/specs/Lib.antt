@@ -1,0 +1,5 @@
+pub mod Dump
+pub mod Kinds
+pub mod Names
+pub mod Visible
+pub mod WorkedDumps

@@ -1,0 +1,17 @@
+//! What can be seen of the kernel from outside: its events, the states of its threads, how much a
+//! call leaves behind for the replay, and the text of its dump.
+#![tactic(auto)]
+
+mod event;
+mod kinds;
+mod row_state;
+mod wait;
+mod what;
+#[cfg(test)]
+mod worked_dumps;
+
+pub use event::Event;
+pub use kinds::record_words;
+pub use row_state::RowState;
+pub use wait::{NEVER, Wait};
+pub use what::What;
