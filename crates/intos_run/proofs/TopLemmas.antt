@@ -1,0 +1,100 @@
+-- The run as a whole.
+use Rattle.std.proofs.Common.{◌≡◌, ℕ, zero, suc, ◌==◌, List, [], ◌∷◌, ◌++◌, Option, Result, Ok, Err, true, false, length, drop, replicate, refl, sym, ◌∙◌, ap, subst, arith, append_assoc}
+use Rattle.std.proofs.lemmas.Bool.Decides.{nat_tests}
+use Rattle.std.specs.Prelude.{slice_index, OnOk}
+use Rattle.std.specs.Result.{is_err}
+use Rattle.nv_memory.specs.Blank.{blank_words}
+use Rattle.nv_memory.specs.Budget.{first_budget, later_budgets}
+use Rattle.outer_world.specs.Written.{put_to, IsPart}
+use Rattle.outer_world.proofs.WrittenLaws.{put_twice, part_of_second}
+use Rattle.kernel_model.specs.Dump.{text_of, dump_lines}
+use Rattle.kernel_model.proofs.DumpLemmas.{text_of-append}
+use Rattle.undo_journal.specs.Undo.{IsAtRest, outside}
+use Rattle.undo_journal.proofs.Undone.{durable-at_rest}
+use Rattle.intos_run.specs.Image.{stored}
+use Rattle.intos_run.specs.Kept.{counter, IsKept}
+use Rattle.intos_run.specs.Report.{is_formatted, goes_dark, before_last, cut_boots, last_boot, report}
+use Rattle.intos_run.specs.Runs.{budgets_of, lines_before_dump}
+use Rattle.intos_run.specs.Shown.{names, visible}
+use Rattle.intos_run.specs.Uncut.{initial, after}
+use Rattle.intos_run.proofs.BootLemmas.{stored-events}
+use Rattle.intos_run.proofs.KeptLemmas.{shown-formatted, shown-blank}
+use Rattle.intos_run.proofs.UncutLemmas.{after-zero}
+
+replicate-zero : (count at : ℕ) → slice_index (replicate count 0) at ≡ 0
+replicate-zero zero at = refl
+replicate-zero (suc count) zero = refl
+replicate-zero (suc count) (suc at) = replicate-zero count at
+
+blank-zero : slice_index blank_words 0 ≡ 0
+unfolding blank_words
+blank-zero = replicate-zero 16384 0
+
+-- a blank device counts no event
+pub counter-blank : (words : List ℕ) → words ≡ blank_words → counter words ≡ 0
+counter-blank words is =
+    let zero_first : slice_index words 0 ≡ 0 = ap (λ (w : List ℕ). slice_index w 0) is ∙ blank-zero in
+    ap (λ (f : ℕ → ℕ). f 1) (shown-blank words (omega (arith, zero_first))) ∙ stored-events initial
+
+-- and stands for the beginning of every run
+pub IsKept-blank : (prints : List (List ℕ)) (words : List ℕ) → words ≡ blank_words → IsKept prints words
+IsKept-blank prints words is =
+    let zero_first : slice_index words 0 ≡ 0 = ap (λ (w : List ℕ). slice_index w 0) is ∙ blank-zero in
+    record {
+      shows = shown-blank words (omega (arith, zero_first)) ∙ ap stored (sym (after-zero prints)) ∙ ap (λ (n : ℕ). stored (after prints n)) (sym (counter-blank words is));
+      recoverable = record { journalled = λ formatted. absurd (omega (arith, zero_first, formatted)); blank = λ _. zero_first };
+    }
+
+-- the budgets that were planned are those of the run
+pub budgets-planned : (cuts : List ℕ) → budgets_of (first_budget cuts) (later_budgets cuts) ≡ cuts
+budgets-planned [] = refl
+budgets-planned (cut ∷ cuts) = refl
+
+-- a device at rest stands for the state that it counts
+pub outside-kept : (prints : List (List ℕ)) (words : List ℕ) → IsAtRest words → IsKept prints words → outside words ≡ stored (after prints (counter words))
+outside-kept prints words at_rest kept = sym (durable-at_rest words at_rest) ∙ sym (shown-formatted words at_rest.formatted) ∙ kept.shows
+
+module _ (prints : List (List ℕ)) (steps : ℕ) (cuts first : List ℕ) (ends : List (List ℕ)) (words : List ℕ) (at_rest : IsAtRest words) (all : counter words ≡ steps)
+    (live : goes_dark (first_budget (drop (length ends) cuts)) (before_last first ends) ≡ false) where
+  -- the report of a run that came to the last event
+  pub report-whole : text_of (lines_before_dump prints steps cuts first ends) ++ text_of (dump_lines names (visible (after prints (counter words)))) ≡ report prints steps cuts first ends words
+  unfolding report last_boot
+  report-whole =
+      let formatted : is_formatted words ≡ true = grind (arith, nat_tests, at_rest.formatted) in
+      let last : (counter words == steps) ≡ true = grind (arith, nat_tests) in
+      rw (live, formatted, last)
+      (ap (λ (n : ℕ). text_of (lines_before_dump prints steps cuts first ends) ++ text_of (dump_lines names (visible (after prints n)))) all
+      ∙ sym (text_of-append (lines_before_dump prints steps cuts first ends) (dump_lines names (visible (after prints steps))))
+      ∙ ap text_of (append_assoc (cut_boots prints 1 cuts first ends) _ _))
+
+-- what a call that succeeded ensures
+pub on_ok : {T E : Type 0} (r : Result T E) (P : Type 0) → is_err r ≡ false → OnOk r P → P
+on_ok (Ok value) P fine holds = holds
+on_ok (Err error) P fine holds = absurd (let failed : true ≡ false = fine in cc)
+
+-- the budgets of the planned device
+pub budgets-of_planned : (cuts : List ℕ) (left : Option ℕ) (to_come : List ℕ) → left ≡ first_budget cuts → to_come ≡ later_budgets cuts → budgets_of left to_come ≡ cuts
+budgets-of_planned cuts left to_come is_left is_to_come =
+    ap (λ (b : Option ℕ). budgets_of b to_come) is_left ∙ ap (budgets_of (first_budget cuts)) is_to_come ∙ budgets-planned cuts
+
+module _ (prints : List (List ℕ)) (steps : ℕ) (cuts planned first before : List ℕ) (ends done_ends : List (List ℕ)) (words done_words : List ℕ) (old middle new : Option (List ℕ))
+    (is_cuts : planned ≡ cuts) (is_first : before ≡ first) (is_ends : ends ≡ done_ends) (is_words : words ≡ done_words)
+    (at_rest : IsAtRest done_words) (all : counter done_words ≡ steps)
+    (live : goes_dark (first_budget (drop (length done_ends) planned)) (before_last before done_ends) ≡ false)
+    (begun : middle ≡ put_to old (text_of (lines_before_dump prints steps planned before done_ends))) where
+  -- the report is that of the run, whose device the dump leaves as it is
+  same_report : report prints steps planned before done_ends done_words ≡ report prints steps cuts first ends words
+  same_report = ap (λ (c : List ℕ). report prints steps c before done_ends done_words) is_cuts
+      ∙ ap (λ (f : List ℕ). report prints steps cuts f done_ends done_words) is_first
+      ∙ ap (λ (e : List (List ℕ)). report prints steps cuts first e done_words) (sym is_ends)
+      ∙ ap (report prints steps cuts first ends) (sym is_words)
+
+  pub put_whole : new ≡ put_to middle (text_of (dump_lines names (visible (after prints (counter done_words))))) → new ≡ put_to old (report prints steps cuts first ends words)
+  put_whole dumped =
+      dumped ∙ ap (λ (held : Option (List ℕ)). put_to held (text_of (dump_lines names (visible (after prints (counter done_words)))))) begun
+      ∙ put_twice old _ _ ∙ ap (put_to old) (report-whole prints steps planned before done_ends done_words at_rest all live ∙ same_report)
+
+  pub part_whole : IsPart middle new (text_of (dump_lines names (visible (after prints (counter done_words))))) → IsPart old new (report prints steps cuts first ends words)
+  part_whole part =
+      subst (IsPart old new) (report-whole prints steps planned before done_ends done_words at_rest all live ∙ same_report)
+      (part_of_second old new _ _ (subst (λ (held : Option (List ℕ)). IsPart held new (text_of (dump_lines names (visible (after prints (counter done_words)))))) begun part))

@@ -1,0 +1,28 @@
+//! Runs a program of the kernel over boots that power budgets cut, and reports them.
+//!
+//! `run` is all that the program does: it reads the words of the command line and the program, gives the device its
+//! budgets, runs boot after boot and writes the report. Its clauses are the promises of the project.
+#![tactic(auto)]
+
+mod boot;
+mod boots;
+mod command;
+mod console;
+mod dump;
+mod event;
+mod formatting;
+mod job;
+mod layout;
+mod line;
+mod prints;
+mod program_text;
+mod recovery;
+mod refusal;
+mod report_lines;
+mod thread;
+mod top;
+
+pub use top::{Ended, run};
+
+#[cfg(test)]
+mod tests;

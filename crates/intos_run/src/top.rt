@@ -1,0 +1,180 @@
+// The top call: all that the program does.
+ghost use Rattle.std.specs.Prelude.{◌≡◌, ◌≢◌, ◌⊎◌, ◌<◌, ◌≤◌, ◌++◌, ℕ, List, [], ◌∷◌, length, map, string_bytes, false, Some, None, MatchResult, codes};
+ghost use Rattle.nv_memory.specs.Blank.{blank_words};
+ghost use Rattle.outer_world.specs.Causes.{HasCause, Rose, RoseBy};
+ghost use Rattle.outer_world.specs.Written.{put_to, IsPart, Puts};
+ghost use Rattle.kernel_model.specs.Dump.{dump_lines, text_of};
+ghost use Rattle.undo_journal.specs.Undo.{IsAtRest, outside};
+ghost use Rattle.intos_run.specs.Boots.{AreStrings};
+ghost use Rattle.intos_run.specs.Command.{IsCommand};
+ghost use Rattle.intos_run.specs.Image.{stored};
+ghost use Rattle.intos_run.specs.Kept.{counter};
+ghost use Rattle.intos_run.specs.Refusals.{program_line, IsStatus, IsRefusal, IsUndefined, IsNoProgram, Tells, line_of, status_of};
+ghost use Rattle.intos_run.specs.Report.{report};
+ghost use Rattle.intos_run.specs.Runs.{StepsWithin, HasBudgets, HasImages, IsUntouched};
+ghost use Rattle.intos_run.specs.Shown.{names, visible};
+ghost use Rattle.intos_run.specs.Top.{Task, Asks, IsAccepted};
+ghost use Rattle.intos_run.specs.Uncut.{State, IsBounded};
+ghost use Rattle.intos_run.specs.declared.refusal.Refusal.TheVariants.{Usage, ProgramUnread, ProgramTooLong, ProgramNotYet, NoMemory};
+
+use crate::boots::run_boots;
+use crate::dump::put_dump;
+use crate::job::{Job, read_job};
+use crate::refusal::Refusal;
+use nv_memory::Nv;
+use outer_world::{Files, Sink};
+use std::alloc::Global;
+use std::sync::ledger::Ledger;
+use step_counter::Steps;
+use undo_journal::settle;
+
+/// What a run left: the status with which the program ends, and the device.
+pub struct Ended<N: Nv> {
+    /// 0 where every event is committed and the report is written, 2 for other words, 3 for a program that couldn't be
+    /// read, 4 for one that isn't served, 6 where the sink failed, 7 for want of memory.
+    pub status: u8,
+    /// The device.
+    pub nv: N,
+}
+
+/// Ends a run that isn't begun.
+fn refuse<N: Nv, S: Sink>(refusal: Refusal, sink: &mut S, nv: N) -> Ended<N>
+    ensures status { result.status ≡ status_of refusal }
+    ensures same { result.nv ≡ nv }
+    ensures tells { Tells (line_of refusal) (S.bytes sink.old) (S.bytes sink.new) (S.faults sink.old) (S.faults sink.new) }
+{
+    let _ = refusal.put(sink);
+    Ended {
+        status: refusal.status(),
+        nv,
+    }
+}
+
+/// Writes the dump of a device at rest.
+///
+/// # Errors
+///
+/// The device, where the sink failed.
+fn dump<N: Nv, S: Sink, L: Ledger>(nv: N, sink: &mut S, steps: &mut Steps<L>) -> Result<N, N>
+    requires at_rest { IsAtRest (N.words nv) }
+    requires stands { (state : State) × (outside (N.words nv) ≡ stored state) × IsBounded state }
+    ensures words { MatchResult result (λ same. N.words same ≡ N.words nv) (λ same. N.words same ≡ N.words nv) }
+    ensures left { MatchResult result (λ same. N.left same ≡ N.left nv) (λ same. N.left same ≡ N.left nv) }
+    ensures to_come { MatchResult result (λ same. N.to_come same ≡ N.to_come nv) (λ same. N.to_come same ≡ N.to_come nv) }
+    ensures ends { MatchResult result (λ same. N.ends same ≡ N.ends nv) (λ same. N.ends same ≡ N.ends nv) }
+    ensures puts { (state : State) → outside (N.words nv) ≡ stored state → IsBounded state
+        → Puts result (S.bytes sink.old) (S.bytes sink.new) (text_of (dump_lines names (visible state))) }
+    ensures cause { HasCause (S.faults sink.old) (S.faults sink.new) result }
+    ensures steps { steps.new ≡ steps.old }
+{
+    match settle(nv, steps) {
+        Ok(idle) => match put_dump(&idle, sink) {
+            Ok(()) => Ok(idle.rest()),
+            Err(_) => Err(idle.rest()),
+        },
+        Err(dark) => Err(dark.leave()),
+    }
+}
+
+/// Gives the device its budgets and runs it.
+fn run_job<N: Nv, S: Sink, L: Ledger>(
+    alloc: Global,
+    job: &Job,
+    sink: &mut S,
+    nv: N,
+    steps: &mut Steps<L>,
+) -> Ended<N>
+    requires blank { N.words nv ≡ blank_words }
+    requires mains { N.left nv ≡ None }
+    requires none_to_come { N.to_come nv ≡ [] }
+    requires no_ends { N.ends nv ≡ [] }
+    requires strings { AreStrings job.now.prints }
+    requires few_steps { job.now.steps ≤ 1000000 }
+    requires few_cuts { length job.now.cuts.items ≤ 1000 }
+    ensures statuses { (result.status ≡ 0) ⊎ ((result.status ≡ 6) ⊎ (result.status ≡ 7)) }
+    ensures budgets { result.status ≢ 7 → HasBudgets job.now.cuts.items (N.ends result.nv) (N.left result.nv) (N.to_come result.nv) }
+    ensures images { result.status ≢ 7 → HasImages job.now.prints job.now.steps job.now.cuts.items (N.words nv) (N.ends result.nv) (N.words result.nv) }
+    ensures complete { result.status ≡ 0 → counter (N.words result.nv) ≡ job.now.steps }
+    ensures text { result.status ≡ 0 → S.bytes sink.new ≡ put_to (S.bytes sink.old) (report job.now.prints job.now.steps job.now.cuts.items (N.words nv) (N.ends result.nv) (N.words result.nv)) }
+    ensures part { result.status ≡ 6 → IsPart (S.bytes sink.old) (S.bytes sink.new) (report job.now.prints job.now.steps job.now.cuts.items (N.words nv) (N.ends result.nv) (N.words result.nv)) }
+    ensures broken { result.status ≡ 6 → Rose (S.faults sink.old) (S.faults sink.new) }
+    ensures faults { result.status ≡ 0 → S.faults sink.new ≡ S.faults sink.old }
+    ensures memory { result.status ≡ 7 → Tells (line_of NoMemory) (S.bytes sink.old) (S.bytes sink.new) (S.faults sink.old) (S.faults sink.new) }
+    ensures untouched { result.status ≡ 7 → IsUntouched N.Nv nv result.nv }
+    ensures steps { StepsWithin steps.old steps.new (N.words nv) (N.ends result.nv) }
+{
+    let mut nv = nv;
+    if nv.plan(alloc, &job.cuts).is_err() {
+        return refuse(Refusal::NoMemory, sink, nv);
+    }
+    match run_boots(nv, &job.prints, job.steps, sink, steps) {
+        Ok(done) => match dump(done, sink, steps) {
+            Ok(nv) => Ended { status: 0, nv },
+            Err(nv) => Ended { status: 6, nv },
+        },
+        Err(nv) => Ended { status: 6, nv },
+    }
+}
+
+/// Does all that the program does: reads the words of the command line and the program, gives the device its budgets,
+/// runs boot after boot, and writes the report (docs/PROGRAM.md, docs/BOOTS.md, docs/REPORT.md).
+///
+/// The clauses for statuses 0 and 6 speak of any task that the words ask for and whose text the files tell.
+pub fn run<F: Files, S: Sink, N: Nv, L: Ledger>(
+    alloc: Global,
+    words: &Vec<String>,
+    files: &mut F,
+    sink: &mut S,
+    nv: N,
+    steps: &mut Steps<L>,
+) -> Ended<N>
+    requires blank { N.words nv ≡ blank_words }
+    requires mains { N.left nv ≡ None }
+    requires none_to_come { N.to_come nv ≡ [] }
+    requires no_ends { N.ends nv ≡ [] }
+    requires allowed { (name : List ℕ) (steps : ℕ) (cuts : List ℕ) → IsCommand (map string_bytes words.now.items) name steps cuts → F.allowed name false }
+
+    // The budgets were really set.
+    ensures budgets { result.status ≡ 0 ⊎ result.status ≡ 6 → (task : Task) → Asks (map string_bytes words.now.items) (F.contents files.old) task
+        → HasBudgets task.cuts (N.ends result.nv) (N.left result.nv) (N.to_come result.nv) }
+
+    // Every image and the last words are kept for the uncut run, and the events that they count never fall.
+    ensures images { result.status ≡ 0 ⊎ result.status ≡ 6 → (task : Task) → Asks (map string_bytes words.now.items) (F.contents files.old) task
+        → HasImages task.prints task.steps task.cuts (N.words nv) (N.ends result.nv) (N.words result.nv) }
+
+    // With status 0 every event is committed, and the bytes put are the report; with status 6 a prefix of it.
+    ensures complete { result.status ≡ 0 → (task : Task) → Asks (map string_bytes words.now.items) (F.contents files.old) task → counter (N.words result.nv) ≡ task.steps }
+    ensures text { result.status ≡ 0 → (task : Task) → Asks (map string_bytes words.now.items) (F.contents files.old) task
+        → S.bytes sink.new ≡ put_to (S.bytes sink.old) (report task.prints task.steps task.cuts (N.words nv) (N.ends result.nv) (N.words result.nv)) }
+    ensures text_so_far { result.status ≡ 6 → (task : Task) → Asks (map string_bytes words.now.items) (F.contents files.old) task
+        → IsPart (S.bytes sink.old) (S.bytes sink.new) (report task.prints task.steps task.cuts (N.words nv) (N.ends result.nv) (N.words result.nv)) }
+
+    // Each status has its cause, and a run that isn't begun puts its line and nothing else.
+    ensures statuses { IsStatus result.status }
+    ensures usage { result.status ≡ 2 → IsUndefined (map string_bytes words.now.items) }
+    ensures defined { IsUndefined (map string_bytes words.now.items) → (result.status ≡ 2) ⊎ (result.status ≡ 7) }
+    ensures usage_line { result.status ≡ 2 → Tells (codes "usage: intos run PROGRAM STEPS [CUT ..]") (S.bytes sink.old) (S.bytes sink.new) (S.faults sink.old) (S.faults sink.new) }
+    ensures unread { result.status ≡ 3 → Rose (F.faults files.old) (F.faults files.new) }
+    ensures unread_line { result.status ≡ 3 → Tells (codes "cannot read program") (S.bytes sink.old) (S.bytes sink.new) (S.faults sink.old) (S.faults sink.new) }
+    ensures refused { result.status ≡ 4 → (name : List ℕ) (steps : ℕ) (cuts : List ℕ) (text : List ℕ) → IsCommand (map string_bytes words.now.items) name steps cuts
+        → F.contents files.old name ≡ Some text
+        → IsNoProgram text × Tells (program_line text) (S.bytes sink.old) (S.bytes sink.new) (S.faults sink.old) (S.faults sink.new) }
+    ensures untold { result.status ≡ 4
+        → (RoseBy 65537 (F.taken files.old) (F.taken files.new) × Tells (codes "program TooLong") (S.bytes sink.old) (S.bytes sink.new) (S.faults sink.old) (S.faults sink.new))
+        ⊎ Tells (codes "program NotYet") (S.bytes sink.old) (S.bytes sink.new) (S.faults sink.old) (S.faults sink.new) }
+    ensures memory_line { result.status ≡ 7 → Tells (codes "no memory") (S.bytes sink.old) (S.bytes sink.new) (S.faults sink.old) (S.faults sink.new) }
+    ensures accepted { result.status ≡ 0 ⊎ result.status ≡ 6 → IsAccepted (map string_bytes words.now.items) (F.contents files.old) }
+    ensures broken { result.status ≡ 6 → Rose (S.faults sink.old) (S.faults sink.new) }
+    ensures served { (task : Task) → Asks (map string_bytes words.now.items) (F.contents files.old) task
+        → (Rose (F.faults files.old) (F.faults files.new) → ⊥) → (Rose (S.faults sink.old) (S.faults sink.new) → ⊥) → (result.status ≡ 0) ⊎ (result.status ≡ 7) }
+    ensures no_fault { result.status ≡ 0 → (F.faults files.new ≡ F.faults files.old) × (S.faults sink.new ≡ S.faults sink.old) }
+    ensures untouched { IsRefusal result.status → IsUntouched N.Nv nv result.nv }
+
+    // The steps are at most as many as the writes that the recoveries of its boots need.
+    ensures steps { StepsWithin steps.old steps.new (N.words nv) (N.ends result.nv) }
+{
+    match read_job(alloc, words, files) {
+        Ok(job) => run_job(alloc, &job, sink, nv, steps),
+        Err(refusal) => refuse(refusal, sink, nv),
+    }
+}
