@@ -1,0 +1,27 @@
+//! The tree of a thread program, and what its expressions and moves mean.
+//!
+//! `docs/LANGUAGE.md` teaches the language. The definitions stand in `specs/`: the grammar, the
+//! value of an expression, the state of a thread and its moves.
+#![tactic(auto)]
+
+mod action;
+mod block;
+mod expr;
+mod list;
+mod local;
+mod name;
+mod place;
+mod token;
+mod transaction;
+mod tree;
+
+pub use action::{Call, Item, Who};
+pub use block::{Block, Stmt};
+pub use expr::{Expr, FieldOf, Op};
+pub use list::List;
+pub use local::Local;
+pub use name::{Name, Text};
+pub use place::{At, Num, Place};
+pub use token::{Mark, Placed, Token, Word};
+pub use transaction::{TBlock, TStmt};
+pub use tree::{Decl, Tree};
