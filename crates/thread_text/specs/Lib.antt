@@ -1,0 +1,10 @@
+pub mod Bounds
+pub mod Fate
+pub mod Kinds
+pub mod Verdict
+pub mod Refusals
+pub mod Canonical
+pub mod CanonicalText
+pub mod Repeats
+pub mod Rescanned
+pub mod WorkedTexts
