@@ -1,0 +1,12 @@
+pub mod Verdict
+pub mod Scope
+pub mod Names
+pub mod Uses
+pub mod Expressions
+pub mod Calls
+pub mod Blocks
+pub mod Transactions
+pub mod Statements
+pub mod Declarations
+pub mod Faults
+pub mod ActionLists
