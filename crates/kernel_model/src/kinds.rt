@@ -1,5 +1,67 @@
-ghost use Rattle.std.specs.Prelude.{◌≡◌, ◌≤◌};
-ghost use Rattle.kernel_model.specs.Kinds.{record_words_of};
+ghost use Rattle.std.specs.Prelude.{◌≡◌, ◌≤◌, IsSome, IfSome};
+ghost use Rattle.thread_tree.specs.Kinds.{action_of, kind_of_call, record_words_of};
+
+use thread_tree::{Call, Stmt};
+
+// The table of kinds: the number, the call, and the words of its record, which an atomic block
+// adds the words that it gives to. It is handed to the macro `rows`, after `input`.
+macro_rules! table {
+    ($rows:ident, $input:expr) => {
+        $rows! {
+            $input;
+            1 Print 2,
+            2 Spawn 2,
+            3 Delete 2,
+            4 Delay 1,
+            5 Setprio 2,
+            6 Getprio 2,
+            7 Send 2,
+            8 Receive 3,
+            9 Take 2,
+            10 Give 2,
+            11 Now 2,
+            12 Yield 1,
+            13 Waiting 2;
+            14 turn 0,
+            15 end 0,
+            16 atomic 2
+        }
+    };
+}
+
+// The kind of a call.
+fn kind_of_call(call: &Call) -> u32
+    ensures kind { result ≡ kind_of_call call.now }
+{
+    macro_rules! kind {
+        ($input:expr; $($kind:literal $call:ident $words:literal),*; $($rest:tt)*) => {
+            match $input {
+                $(Call::$call { .. } => $kind,)*
+            }
+        };
+    }
+    table!(kind, call)
+}
+
+/// The number of an action's kind, from 1 to 16. The statement is an action: a call, an atomic
+/// block, or a persistent loop, whose action is its turn.
+pub fn kind_of(stmt: &Stmt) -> u32
+    requires action { IsSome (action_of stmt.now) }
+    ensures kind { IfSome (action_of stmt.now) (λ action. result ≡ action.kind) }
+{
+    match stmt {
+        Stmt::Call(_, call, _) => kind_of_call(call),
+        Stmt::Ploop(..) => 14,
+        Stmt::Atomic(..) => 16,
+        Stmt::Let(..)
+        | Stmt::Set(..)
+        | Stmt::Apply(..)
+        | Stmt::If(..)
+        | Stmt::While(..)
+        | Stmt::Break(..)
+        | Stmt::Return(..) => unreachable!(),
+    }
+}
 
 /// How many words a call of this kind leaves in its thread's records: one for the kind and one for
 /// each result. `given` is the number of words that an atomic block gives, and counts for it alone.
@@ -9,39 +71,38 @@ pub fn record_words(kind: u32, given: u32) -> u32
     requires few { given ≤ 3 }
     ensures words { result ≡ record_words_of kind given }
 {
-    // the kind's number, its call, and the words
     macro_rules! words {
-        ($kind:expr, $($number:literal $call:ident $words:expr;)*) => {
-            match $kind {
-                $($number => $words,)*
+        ($input:expr; $($kind:literal $call:ident $words:literal),*; $($other:literal $name:ident $own:literal),*) => {
+            match $input {
+                $($kind => $words,)*
+                $($other => $own,)*
                 _ => unreachable!(),
             }
         };
     }
-    words! {
-        kind,
-        1 print 2;
-        2 spawn 2;
-        3 delete 2;
-        4 delay 1;
-        5 setprio 2;
-        6 getprio 2;
-        7 send 2;
-        8 receive 3;
-        9 take 2;
-        10 give 2;
-        11 now 2;
-        12 yield 1;
-        13 waiting 2;
-        14 turn 0;
-        15 end 0;
-        16 atomic 2 + given;
-    }
+    let words = table!(words, kind);
+    if kind == 16 { words + given } else { words }
 }
 
 #[cfg(test)]
 mod tests {
     use super::*;
+    use thread_tree::{Block, List, Place};
+
+    const HERE: Place = Place { line: 1, column: 1 };
+
+    #[test]
+    fn kinds_of_actions(rt: HostRuntime) {
+        let now = Stmt::Call(HERE, Call::Now, List::of(Vec::new(rt.alloc())));
+        assert_eq!(rt; kind_of(&now), 11);
+        let wait = Stmt::Call(HERE, Call::Yield, List::of(Vec::new(rt.alloc())));
+        assert_eq!(rt; kind_of(&wait), 12);
+        let stmts = List::of(Vec::new(rt.alloc()));
+        assert_eq!(rt;
+            kind_of(&Stmt::Ploop(HERE, Block { place: HERE, stmts })),
+            14
+        );
+    }
 
     #[test]
     fn the_whole_table(rt: HostRuntime) {

@@ -4,14 +4,18 @@
 
 mod event;
 mod kinds;
+mod laws;
 mod row_state;
 mod wait;
 mod what;
 #[cfg(test)]
 mod worked_dumps;
+#[cfg(test)]
+mod worked_runs;
 
 pub use event::Event;
-pub use kinds::record_words;
+pub use kinds::{kind_of, record_words};
+pub use laws::{loops, order, places, replay, soundness};
 pub use row_state::RowState;
 pub use wait::{NEVER, Wait};
 pub use what::What;
