@@ -1,0 +1,9 @@
+use Rattle.std.proofs.Common.{◌≡◌}
+use Rattle.std.specs.Option.{option_copied}
+use Rattle.thread_tree.specs.Program.{program_of}
+use Rattle.thread_machine.specs.Context.{statements}
+use Rattle.thread_machine.proofs.LevelLemmas.{stmts_along}
+use Rattle.thread_machine.proofs.context.Ctx.block.Given as goal
+
+abbrev pub invariant-loop-at : goal.invariant-loop-at
+invariant-loop-at l = statements (option_copied l.block) ≡ stmts_along (program_of l.tree) l.self.body l.self.cursors.items l.at

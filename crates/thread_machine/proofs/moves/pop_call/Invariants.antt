@@ -1,0 +1,12 @@
+use Rattle.std.proofs.Common.{◌≡◌, ℕ, length}
+use Rattle.thread_tree.specs.Program.{Program}
+use Rattle.thread_machine.specs.Context.{level_along}
+use Rattle.thread_machine.proofs.moves.pop_call.Given as goal
+
+abbrev pub invariant-loop-cursor : goal.invariant-loop-cursor
+invariant-loop-cursor l = (p : Program) (template : ℕ) →
+    ((level_along p template l.initial.cursors.items).waiting ≡ (level_along p template l.cursors.items).waiting)
+    × ((level_along p template l.initial.cursors.items).result ≡ (level_along p template l.cursors.items).result)
+
+abbrev pub decreases-loop-cursor : goal.decreases-loop-cursor
+decreases-loop-cursor l = length l.cursors.items

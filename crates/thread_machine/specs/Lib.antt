@@ -1,0 +1,11 @@
+pub mod Context
+pub mod Seen
+pub mod Within
+pub mod Reached
+pub mod Next
+pub mod Operands
+pub mod ActionLists
+pub mod Parts
+pub mod Lives
+pub mod Loops
+pub mod Seeking
