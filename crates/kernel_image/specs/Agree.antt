@@ -1,0 +1,41 @@
+-- When a row of the image stands for a row of the kernel.
+use Rattle.std.specs.Prelude.{◌≡◌, ℕ, List, [], ◌∷◌}
+use Rattle.kernel_model.specs.Kernel as kernel
+use Rattle.kernel_model.specs.Kernel.{Activity, Thread}
+use Rattle.kernel_model.specs.Kernel.Activity.{Ready, Delayed, Waiting}
+use Rattle.kernel_model.specs.Kernel.Row.{Free, Ended, Live}
+use Rattle.kernel_image.specs.Decoded.{RowWords}
+use Rattle.kernel_image.specs.Shown.{wait_of}
+
+-- the state of a row is what a thread does
+abbrev pub Does : RowWords → Activity → Type 0
+Does row Ready = row.state ≡ 1
+Does row (Delayed wake) = (row.state ≡ 2) × (row.wake ≡ wake)
+Does row (Waiting wait) = (row.state ≡ 3) × (wait_of row ≡ wait)
+
+-- a row has the template, the priority and the stamp of a live thread, and does what it does
+pub record IsThread (row : RowWords) (thread : Thread) : Type 0 where
+  pub template : row.template ≡ thread.template
+  pub priority : row.priority ≡ thread.priority
+  pub stamp : row.stamp ≡ thread.stamp
+  pub does : Does row thread.activity
+
+-- a row of an ended thread
+pub record IsEnded (row : RowWords) (number level cause : ℕ) : Type 0 where
+  pub state : row.state ≡ 4
+  pub template : row.template ≡ number
+  pub priority : row.priority ≡ level
+  pub code : row.code ≡ cause
+
+-- a row stands for a row of the kernel
+abbrev pub Agrees : RowWords → kernel.Row → Type 0
+Agrees row Free = row.state ≡ 0
+Agrees row (Ended template priority code) = IsEnded row template priority code
+Agrees row (Live thread) = IsThread row thread
+
+-- the elements of two lists, one by one
+abbrev pub Both : {X Y : Type 0} → (X → Y → Type 0) → List X → List Y → Type 0
+Both R [] [] = Unit {0}
+Both R [] (y ∷ ys) = ⊥
+Both R (x ∷ xs) [] = ⊥
+Both R (x ∷ xs) (y ∷ ys) = R x y × Both R xs ys

@@ -1,0 +1,8 @@
+pub mod Cells
+pub mod Decoded
+pub mod Shown
+pub mod WorkedImages
+pub mod Initial
+pub mod Declarations
+pub mod Agree
+pub mod Start
