@@ -5,6 +5,7 @@ use Rattle.std.proofs.lemmas.Bool.{cases_eq}
 use Rattle.std.proofs.lemmas.Bool.Decides.{nat_tests}
 use Rattle.std.specs.Prelude.{slice_index}
 use Rattle.undo_journal.specs.Undo.{outside, in_journal, with_word}
+use Rattle.undo_journal.proofs.Outside.{outside-beside}
 use Rattle.intos_run.specs.Image.{Image, is_among, fixed_word, word_of}
 
 -- two tables of words that agree at one place and wherever that place isn't meant are one
@@ -75,8 +76,7 @@ word_of-console image i value h =
 
 -- a word outside the journal is what stands there
 pub slice_index-outside : (words : List ℕ) (f : ℕ → ℕ) (at : ℕ) → outside words ≡ f → in_journal at ≡ false → slice_index words at ≡ f at
-unfolding outside
-slice_index-outside words f at same plain = let here : outside words at ≡ slice_index words at = rw plain in sym here ∙ ap (λ (h : ℕ → ℕ). h at) same
+slice_index-outside words f at same plain = sym (outside-beside words at plain) ∙ ap (λ (h : ℕ → ℕ). h at) same
 
 -- the words of the console aren't in the journal
 console_outside : (i : ℕ) → i < 2048 → in_journal (5760 + i) ≡ false

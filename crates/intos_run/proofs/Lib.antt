@@ -7,9 +7,7 @@ pub mod ImageLemmas
 pub mod InitialLemmas
 pub mod KeptLemmas
 pub mod LawSets
-pub mod Lines
 pub mod Numbers
-pub mod Program
 pub mod PutInParts
 pub mod ReportLemmas
 pub mod RunLemmas
@@ -18,3 +16,5 @@ pub mod StateLemmas
 pub mod TaskLemmas
 pub mod TopLemmas
 pub mod UncutLemmas
+pub mod Printed
+pub mod ServedSame

@@ -23,16 +23,16 @@ part_behind old middle new a b first part =
     part_of_second old new a (b ++ []) (part_of_first (put_to old a) new b [] (subst (λ (o : Option (List ℕ)). IsPart o new b) first part))
 
 -- the lines of a thread that goes on
-pub begin_ready : (number undone events replayed : ℕ) (state : State) → state.ended ≡ false → events ≡ state.events → replayed ≡ state.passed
-    → text_of (start_line number events undone replayed ∷ thread_line number ∷ []) ≡ text_of (begin_lines number state undone)
+pub begin_ready : (number undone events replayed : ℕ) (name named : List ℕ) (state : State) → named ≡ name → state.ended ≡ false → events ≡ state.events → replayed ≡ state.passed
+    → text_of (start_line number events undone replayed ∷ thread_line number named ∷ []) ≡ text_of (begin_lines number name state undone)
 unfolding begin_lines
-begin_ready number undone events replayed state ready is_events is_passed = rw (ready, is_events, is_passed)
+begin_ready number undone events replayed name named state is_name ready is_events is_passed = rw (is_name, ready, is_events, is_passed)
 
 -- the line where the thread has ended
-pub begin_ended : (number undone events : ℕ) (state : State) → state.ended ≡ true → events ≡ state.events
-    → start_line number events undone 0 ++ 10 ∷ [] ≡ text_of (begin_lines number state undone)
+pub begin_ended : (number undone events : ℕ) (name : List ℕ) (state : State) → state.ended ≡ true → events ≡ state.events
+    → start_line number events undone 0 ++ 10 ∷ [] ≡ text_of (begin_lines number name state undone)
 unfolding begin_lines
-begin_ended number undone events state ended is_events = rw (ended, is_events) (sym (append-nil (start_line number state.events undone 0 ++ 10 ∷ [])))
+begin_ended number undone events name state ended is_events = rw (ended, is_events) (sym (append-nil (start_line number state.events undone 0 ++ 10 ∷ [])))
 
 -- the line of a refusal
 pub tells : {T E : Type 0} (r : Result T E) (line : List ℕ) (old new : Option (List ℕ)) (faults now : ℕ) → Puts r old new (line ++ 10 ∷ []) → HasCause faults now r → Tells line old new faults now

@@ -72,7 +72,7 @@ module _ (words : List ℕ) (state : State) (same : outside words ≡ stored sta
   unfolding word_of fixed_word image_of
   read_row = slice_index-outside words _ 1152 same refl
 
-  pub read_priority : slice_index words 1154 ≡ 1
+  pub read_priority : slice_index words 1154 ≡ state.priority
   unfolding word_of fixed_word image_of
   read_priority = slice_index-outside words _ 1154 same refl
 

@@ -1,87 +1,129 @@
 -- What was read is what was asked for.
-use Rattle.std.proofs.Common.{◌≡◌, ℕ, ◌+◌, ◌*◌, ◌<◌, ◌≤◌, List, [], ◌∷◌, ◌++◌, Option, Some, true, false, length, ◌∙◌, ap, subst, refl, arith, length-append}
-use Rattle.std.proofs.lemmas.Bool.Decides.{nat_tests}
-use Rattle.std.proofs.lemmas.List.Elements.{All-tail}
-use Rattle.std.specs.Prelude.{All, IfSome, nat_lt, codes}
-use Rattle.std.specs.List.{flat_map}
+use Rattle.std.proofs.Common.{◌≡◌, ℕ, ◌<◌, ◌≤◌, List, Option, Some, None, inl, inr, sym, ◌∙◌, ap, subst, refl, arith}
+use Rattle.std.specs.Prelude.{IfSome}
+use Rattle.thread_tree.specs.declared.tree.Tree.{Tree}
+use Rattle.thread_tokens.specs.Scan.{scan_of}
+use Rattle.thread_text.specs.Verdict.{Verdict, Fine, Faulty as found, verdict}
+use Rattle.thread_text.specs.declared.fault.TextFault.{TextFault}
+use Rattle.thread_text.specs.declared.fault.TextFault.TheVariants as text_fault
+use Rattle.thread_check.specs.Faults.{fault_of, IsTold}
+use Rattle.thread_check.specs.declared.fault.CheckFault.{CheckFault}
+use Rattle.thread_check.specs.declared.fault.CheckFault.TheVariants as check_fault
+use Rattle.accepted_program.specs.Accepted.{IsSpelling, IsAccepted}
+use Rattle.accepted_program.proofs.OneProgram.{same_names, same_decls, accepted_too}
 use Rattle.outer_world.specs.Causes.{Rose}
 use Rattle.intos_run.specs.Command.{IsCommand}
-use Rattle.intos_run.specs.Program.{IsString, IsProgram, print_line, first_line, last_lines, text_of}
-use Rattle.intos_run.specs.Refusals.{status_of, line_of, program_line, IsNoProgram, RefusesRun, Tells}
-use Rattle.intos_run.specs.Top.{Task, Asks}
+use Rattle.intos_run.specs.Program.{Printer, served}
+use Rattle.intos_run.specs.Refusals.{status_of, line_of, refusal_of_text, refusal_of_check, IsTextFault, IsFaulty, IsProgram, RefusesText, RefusesProgram, RefusesNamed, RefusesRun, Tells}
+use Rattle.intos_run.specs.Top.{Task, Asks, IsRefusedBy}
 use Rattle.intos_run.specs.declared.refusal.Refusal.{Refusal}
-use Rattle.intos_run.specs.declared.refusal.Refusal.TheVariants.{Usage, ProgramUnread, ProgramTooLong, ProgramNotYet, NoMemory}
+use Rattle.intos_run.specs.declared.refusal.Refusal.TheVariants.{Usage, ProgramUnread, ProgramTooLong, Faulty, ProgramNotYet, NoMemory}
 use Rattle.intos_run.proofs.Commands.{IsCommand-unique}
-use Rattle.intos_run.proofs.Program.{IsProgram-unique}
+use Rattle.intos_run.proofs.ServedSame.{served-same}
 
 -- a fact of an option that is known
 pub at_some : {T : Type 0} (o : Option T) (P : T → Type 0) (value : T) → o ≡ Some value → IfSome o P → P value
 at_some {T} o P value is holds = subst (λ (x : Option T). IfSome x P) is holds
 
+Some-same : {T : Type 0} (a b : T) → Some a ≡ Some b → a ≡ b
+Some-same a b same = cc
+
+-- what one spelling of a text is served as, each is
+served_too : (text : List ℕ) (t u : Tree) → IsSpelling text t → IsSpelling text u → served t ≡ served u
+served_too text t u first second = served-same t u (same_names text t u first second) (same_decls text t u first second)
+
+-- a text is the program of one thread alone
+pub runs_same : (text : List ℕ) (printer asked : Printer) → IsProgram text printer → IsProgram text asked → printer ≡ asked
+runs_same text printer asked one other =
+    Some-same printer asked (sym one.is_served ∙ served_too text one.tree other.tree one.accepted.spelling other.accepted.spelling ∙ other.is_served)
+
 -- the job that was read is the task that is asked for
-pub record IsTask (prints : List (List ℕ)) (steps : ℕ) (cuts : List ℕ) (task : Task) : Type 0 where
-  pub prints_is : prints ≡ task.prints
+pub record IsTask (printer : Printer) (steps : ℕ) (cuts : List ℕ) (task : Task) : Type 0 where
+  pub printer_is : printer ≡ task.printer
   pub steps_is : steps ≡ task.steps
   pub cuts_is : cuts ≡ task.cuts
 
-pub same_task : (words : List (List ℕ)) (contents : List ℕ → Option (List ℕ)) (prints : List (List ℕ)) (steps : ℕ) (cuts : List ℕ) (task : Task)
-    → (name : List ℕ) × IsCommand words name steps cuts × IfSome (contents name) (λ text. IsProgram text prints) → Asks words contents task → IsTask prints steps cuts task
-same_task words contents prints steps cuts task read asks =
+pub same_task : (words : List (List ℕ)) (contents : List ℕ → Option (List ℕ)) (printer : Printer) (steps : ℕ) (cuts : List ℕ) (task : Task)
+    → (name : List ℕ) × IsCommand words name steps cuts × IfSome (contents name) (λ text. IsProgram text printer) → Asks words contents task → IsTask printer steps cuts task
+same_task words contents printer steps cuts task read asks =
     let unique = IsCommand-unique words read.0 task.name steps task.steps cuts task.cuts read.1 asks.command in
     let told : contents read.0 ≡ Some task.text = ap contents unique.0 ∙ asks.told in
     record {
-      prints_is = IsProgram-unique task.text prints task.prints (at_some (contents read.0) (λ text. IsProgram text prints) task.text told read.2) asks.accepted;
+      printer_is = runs_same task.text printer task.printer (at_some (contents read.0) (λ text. IsProgram text printer) task.text told read.2) asks.accepted;
       steps_is = unique.1;
       cuts_is = unique.2;
     }
 
 -- what holds of the job holds of the task
-pub for_task : (P : List (List ℕ) → ℕ → List ℕ → Type 0) (prints : List (List ℕ)) (steps : ℕ) (cuts : List ℕ) (task : Task) → IsTask prints steps cuts task → P prints steps cuts → P task.prints task.steps task.cuts
-for_task P prints steps cuts task is holds =
-    subst (λ (c : List ℕ). P task.prints task.steps c) is.cuts_is (subst (λ (n : ℕ). P task.prints n cuts) is.steps_is (subst (λ (p : List (List ℕ)). P p steps cuts) is.prints_is holds))
-
--- a program has at most 65,536 bytes
-
-length-print_lines : (prints : List (List ℕ)) → All IsString prints → length (flat_map print_line prints) ≤ 74 * length prints
-unfolding print_line
-length-print_lines [] strings = omega arith
-length-print_lines (string ∷ prints) strings =
-    let is : IsString string = strings 0 string (omega arith) in
-    let rest = length-print_lines prints (All-tail IsString string prints strings) in
-    let line : length (codes "print \"" ++ (string ++ codes "\";\n")) ≡ 10 + length string = omega (arith, length-append (codes "print \"") (string ++ codes "\";\n"), length-append string (codes "\";\n")) in
-    omega (arith, is.short, rest, line, length-append (codes "print \"" ++ (string ++ codes "\";\n")) (flat_map print_line prints))
-
-pub program-short : (text : List ℕ) (prints : List (List ℕ)) → IsProgram text prints → length text ≤ 65536
-unfolding text_of first_line last_lines
-program-short text prints program =
-    omega (
-      arith,
-      ap length program.same,
-      length-append (codes "thread t() priority 1 {\n") (flat_map print_line prints ++ codes "}\nstart t();\n"),
-      length-append (flat_map print_line prints) (codes "}\nstart t();\n"),
-      length-print_lines prints program.strings,
-      program.few,
-    )
+pub for_task : (P : Printer → ℕ → List ℕ → Type 0) (printer : Printer) (steps : ℕ) (cuts : List ℕ) (task : Task) → IsTask printer steps cuts task → P printer steps cuts → P task.printer task.steps task.cuts
+for_task P printer steps cuts task is holds =
+    subst (λ (c : List ℕ). P task.printer task.steps c) is.cuts_is (subst (λ (n : ℕ). P task.printer n cuts) is.steps_is (subst (λ (p : Printer). P p steps cuts) is.printer_is holds))
 
 module _ (words : List (List ℕ)) (contents : List ℕ → Option (List ℕ)) (taken taken_now faults faults_now sink_faults sink_faults_now : ℕ) (old new : Option (List ℕ)) where
+  -- a text that is told, of the program that is refused
+  text_refused : (refusal : Refusal) (name : List ℕ) (steps : ℕ) (cuts text : List ℕ) → IsCommand words name steps cuts → contents name ≡ Some text
+      → (why : (n : List ℕ) × (s : ℕ) × (c : List ℕ) × IsCommand words n s c × IfSome (contents n) (λ t. RefusesText t refusal)) → RefusesText text refusal
+  text_refused refusal name steps cuts text command told why =
+      let same = IsCommand-unique words why.0 name why.1 steps why.2 cuts why.3 command in
+      at_some (contents why.0) (λ t. RefusesText t refusal) text (ap contents same.0 ∙ told) why.4
+
   -- why a run ends with status 4
   pub refused : (refusal : Refusal) → status_of refusal ≡ 4 → RefusesRun words contents taken taken_now faults faults_now refusal → Tells (line_of refusal) old new sink_faults sink_faults_now
       → (name : List ℕ) (steps : ℕ) (cuts : List ℕ) (text : List ℕ) → IsCommand words name steps cuts → contents name ≡ Some text
-      → IsNoProgram text × Tells (program_line text) old new sink_faults sink_faults_now
+      → (line : List ℕ) × IsRefusedBy text line × Tells line old new sink_faults sink_faults_now
   refused Usage is why tells name steps cuts text command told = absurd (omega (arith, is))
   refused ProgramUnread is why tells name steps cuts text command told = absurd (omega (arith, is))
   refused NoMemory is why tells name steps cuts text command told = absurd (omega (arith, is))
   refused ProgramTooLong is why tells name steps cuts text command told =
-      let same = IsCommand-unique words why.0 name why.1 steps why.2 cuts why.3 command in
-      let longer = at_some (contents why.0) (λ t. 65536 < length t) text (ap contents same.0 ∙ told) why.4.2 in
-      let test : nat_lt 65536 (length text) ≡ true = grind (arith, nat_tests) in
-      (λ prints program. absurd (omega (arith, longer, program-short text prints program)), rw test tells)
+      (line_of ProgramTooLong, (ProgramTooLong, is, text_refused ProgramTooLong name steps cuts text command told (why.0, why.1, why.2, why.3, why.4.2), refl), tells)
+  refused (Faulty place f) is why tells name steps cuts text command told =
+      (line_of (Faulty place f), (Faulty place f, is, text_refused (Faulty place f) name steps cuts text command told (why.0, why.1, why.2, why.3, why.4.1), refl), tells)
   refused ProgramNotYet is why tells name steps cuts text command told =
-      let same = IsCommand-unique words why.0 name why.1 steps why.2 cuts why.3 command in
-      let here = ap contents same.0 ∙ told in
-      let shorter = at_some (contents why.0) (λ t. length t ≤ 65536) text here why.4.1 in
-      let test : nat_lt 65536 (length text) ≡ false = grind (arith, nat_tests) in
-      (at_some (contents why.0) IsNoProgram text here why.4.2, rw test tells)
+      (line_of ProgramNotYet, (ProgramNotYet, is, text_refused ProgramNotYet name steps cuts text command told (why.0, why.1, why.2, why.3, why.4.1), refl), tells)
+
+fine_found : (v : Verdict) (t : TextFault) → v ≡ Fine → v ≡ found t → ⊥
+fine_found v t fine faulty = let e : Fine ≡ found t = sym fine ∙ faulty in cc
+
+-- a text that has a fault has no tree that is accepted
+not_faulty : (text : List ℕ) (printer : Printer) (t : TextFault) (refusal : Refusal) → IsProgram text printer → IsTextFault text t → refusal_of_text t ≡ refusal → status_of refusal ≡ 7
+not_faulty text printer (text_fault.BadToken place) refusal program fault is = absurd (fine_found _ _ program.accepted.spelling.fine fault)
+not_faulty text printer (text_fault.Expected place) refusal program fault is = absurd (fine_found _ _ program.accepted.spelling.fine fault)
+not_faulty text printer (text_fault.NumberTooLarge place) refusal program fault is = absurd (fine_found _ _ program.accepted.spelling.fine fault)
+not_faulty text printer (text_fault.TooLong place) refusal program fault is = absurd (fine_found _ _ program.accepted.spelling.fine fault)
+not_faulty text printer text_fault.NoMemory refusal program fault is = ap status_of (sym is)
+
+None-Some : {T : Type 0} (a : T) → None ≡ Some a → ⊥
+None-Some a same = cc
+
+-- a tree that is accepted breaks no rule
+not_broken : (tree : Tree) (c : CheckFault) (refusal : Refusal) → fault_of tree ≡ None → IsTold (fault_of tree) c → refusal_of_check c ≡ refusal → status_of refusal ≡ 7
+not_broken tree (check_fault.UnknownName place) refusal accepted fault is = absurd (None-Some _ (sym accepted ∙ fault))
+not_broken tree (check_fault.TwiceNamed place) refusal accepted fault is = absurd (None-Some _ (sym accepted ∙ fault))
+not_broken tree (check_fault.NotAllowedHere place) refusal accepted fault is = absurd (None-Some _ (sym accepted ∙ fault))
+not_broken tree (check_fault.WrongCount place) refusal accepted fault is = absurd (None-Some _ (sym accepted ∙ fault))
+not_broken tree (check_fault.OutOfRange place n) refusal accepted fault is = absurd (None-Some _ (sym accepted ∙ fault))
+not_broken tree (check_fault.TooMany place k n) refusal accepted fault is = absurd (None-Some _ (sym accepted ∙ fault))
+not_broken tree check_fault.NoMemory refusal accepted fault is = ap status_of (sym is)
+
+-- a program that is accepted and served isn't refused
+not_refused : (text : List ℕ) (printer : Printer) (refusal : Refusal) → IsProgram text printer → RefusesText text refusal → status_of refusal ≡ 7
+not_refused text printer Usage program why = absurd why
+not_refused text printer ProgramUnread program why = absurd why
+not_refused text printer ProgramTooLong program why = absurd (omega (arith, why, program.short))
+not_refused text printer (Faulty place f) program why = elim why.1 [
+  | inl t ↦ not_faulty text printer t.0 (Faulty place f) program t.1 t.2
+  | inr t ↦ not_broken t.0 t.1 (Faulty place f) (accepted_too text program.tree t.0 program.accepted t.2).checked t.3 t.4
+]
+not_refused text printer ProgramNotYet program why =
+    absurd (None-Some _ (sym why.1.2 ∙ served_too text why.1.0 program.tree why.1.1.spelling program.accepted.spelling ∙ program.is_served))
+not_refused text printer NoMemory program why = refl
+
+module _ (words : List (List ℕ)) (contents : List ℕ → Option (List ℕ)) (task : Task) (asks : Asks words contents task) where
+  -- the text that is asked for isn't refused
+  asked : (refusal : Refusal) → (n : List ℕ) × (s : ℕ) × (c : List ℕ) × IsCommand words n s c × IfSome (contents n) (λ t. RefusesText t refusal) → status_of refusal ≡ 7
+  asked refusal why =
+      let same = IsCommand-unique words why.0 task.name why.1 task.steps why.2 task.cuts why.3 asks.command in
+      not_refused task.text task.printer refusal asks.accepted (at_some (contents why.0) (λ t. RefusesText t refusal) task.text (ap contents same.0 ∙ asks.told) why.4)
 
 -- a run that was asked for and that no fault of the files met isn't refused but for memory
 pub refused_for_memory : (words : List (List ℕ)) (contents : List ℕ → Option (List ℕ)) (taken taken_now faults faults_now : ℕ) (refusal : Refusal) → RefusesRun words contents taken taken_now faults faults_now refusal → (task : Task) → Asks words contents task
@@ -90,9 +132,8 @@ refused_for_memory words contents taken taken_now faults faults_now Usage why ta
 refused_for_memory words contents taken taken_now faults faults_now ProgramUnread why task asks calm = absurd (calm why.4)
 refused_for_memory words contents taken taken_now faults faults_now NoMemory why task asks calm = refl
 refused_for_memory words contents taken taken_now faults faults_now ProgramTooLong why task asks calm =
-    let same = IsCommand-unique words why.0 task.name why.1 task.steps why.2 task.cuts why.3 asks.command in
-    let longer = at_some (contents why.0) (λ t. 65536 < length t) task.text (ap contents same.0 ∙ asks.told) why.4.2 in
-    absurd (omega (arith, longer, program-short task.text task.prints asks.accepted))
+    asked words contents task asks ProgramTooLong (why.0, why.1, why.2, why.3, why.4.2)
+refused_for_memory words contents taken taken_now faults faults_now (Faulty place f) why task asks calm =
+    asked words contents task asks (Faulty place f) (why.0, why.1, why.2, why.3, why.4.1)
 refused_for_memory words contents taken taken_now faults faults_now ProgramNotYet why task asks calm =
-    let same = IsCommand-unique words why.0 task.name why.1 task.steps why.2 task.cuts why.3 asks.command in
-    absurd (at_some (contents why.0) IsNoProgram task.text (ap contents same.0 ∙ asks.told) why.4.2 task.prints asks.accepted)
+    asked words contents task asks ProgramNotYet (why.0, why.1, why.2, why.3, why.4.1)

@@ -7,7 +7,7 @@ use Rattle.std.proofs.lemmas.List.{get_or_past}
 use Rattle.std.proofs.lemmas.List.Elements.{All-drop}
 use Rattle.std.specs.Prelude.{All}
 use Rattle.intos_run.specs.Image.{AreBytes}
-use Rattle.intos_run.specs.Program.{IsString}
+use Rattle.intos_run.specs.Program.{Printer, IsString, IsPrinter}
 use Rattle.intos_run.specs.Uncut.{State, initial, act, stepped, one, after, IsBounded}
 
 -- the state of the row as the words have it
@@ -22,22 +22,22 @@ pub row_ended : (ended : Bool) → (row_word ended ≡ 1 → ⊥) → ended ≡ 
 row_ended true not_ready = refl
 row_ended false not_ready = absurd (not_ready refl)
 
-pub after-zero : (prints : List (List ℕ)) → after prints 0 ≡ initial
+pub after-zero : (printer : Printer) → after printer 0 ≡ initial printer
 unfolding after
-after-zero prints = refl
+after-zero printer = refl
 
-pub after-next : (prints : List (List ℕ)) (n : ℕ) → after prints (n + 1) ≡ one prints (after prints n)
+pub after-next : (printer : Printer) (n : ℕ) → after printer (n + 1) ≡ one printer (after printer n)
 unfolding after
-after-next prints n = let e : n + 1 ≡ suc n = omega arith in rw e
+after-next printer n = let e : n + 1 ≡ suc n = omega arith in rw e
 
-pub one-events : (prints : List (List ℕ)) (state : State) → (one prints state).events ≡ state.events + 1
+pub one-events : (printer : Printer) (state : State) → (one printer state).events ≡ state.events + 1
 unfolding one
-one-events prints state = refl
+one-events printer state = refl
 
-pub after-events : (prints : List (List ℕ)) (n : ℕ) → (after prints n).events ≡ n
+pub after-events : (printer : Printer) (n : ℕ) → (after printer n).events ≡ n
 unfolding after
-after-events prints zero = refl
-after-events prints (suc n) = one-events prints (after prints n) ∙ ap (λ (k : ℕ). k + 1) (after-events prints n) ∙ omega arith
+after-events printer zero = refl
+after-events printer (suc n) = one-events printer (after printer n) ∙ ap (λ (k : ℕ). k + 1) (after-events printer n) ∙ omega arith
 
 bytes-append : (xs ys : List ℕ) → AreBytes xs → AreBytes ys → AreBytes (xs ++ ys)
 bytes-append xs ys fx fy p = elim (cases_lt p (length xs)) [
@@ -51,40 +51,42 @@ bytes-newline (suc p) = lit< tt
 
 bytes-string : (string : List ℕ) → IsString string → AreBytes string
 bytes-string string is p = elim (cases_lt p (length string)) [
-  | inl before ↦ omega (arith, (is.printed p 0 before).high)
+  | inl before ↦ is.eight_bits p 0 before
   | inr behind ↦ omega (arith, get_or_past string p 0 behind)
 ]
 
 -- the bounds, and that no more was printed than there is
-record IsKeptWithin (prints : List (List ℕ)) (state : State) : Type 0 where
-  passed : state.passed ≤ length prints
+record IsKeptWithin (printer : Printer) (state : State) : Type 0 where
+  priority : state.priority ≡ printer.priority
+  passed : state.passed ≤ length printer.prints
   console : length state.console ≤ 65 * state.passed
   bytes : AreBytes state.console
 
-within-act : (prints rest : List (List ℕ)) (state : State) → All IsString rest → state.passed + length rest ≤ length prints → IsKeptWithin prints state → IsKeptWithin prints (act state rest)
-within-act prints [] state strings fits within = record { passed = within.passed; console = within.console; bytes = within.bytes }
-within-act prints (string ∷ later) state strings fits within =
+within-act : (printer : Printer) (rest : List (List ℕ)) (state : State) → All IsString rest → state.passed + length rest ≤ length printer.prints → IsKeptWithin printer state → IsKeptWithin printer (act state rest)
+within-act printer [] state strings fits within = record { priority = within.priority; passed = within.passed; console = within.console; bytes = within.bytes }
+within-act printer (string ∷ later) state strings fits within =
     let is : IsString string = strings 0 string (omega arith) in
     record {
+      priority = within.priority;
       passed = omega (arith, fits);
       console = omega (arith, within.console, is.short, length-append state.console (string ++ 10 ∷ []), length-append string (10 ∷ []));
       bytes = bytes-append state.console (string ++ 10 ∷ []) within.bytes (bytes-append string (10 ∷ []) (bytes-string string is) bytes-newline);
     }
 
-within-stepped : (prints : List (List ℕ)) (state : State) (ended : Bool) → All IsString prints → IsKeptWithin prints state → IsKeptWithin prints (stepped prints state ended)
-within-stepped prints state true strings within = within
-within-stepped prints state false strings within =
-    within-act prints (drop state.passed prints) state (All-drop IsString state.passed prints strings) (omega (arith, within.passed, length-drop state.passed prints)) within
+within-stepped : (printer : Printer) (state : State) (ended : Bool) → All IsString printer.prints → IsKeptWithin printer state → IsKeptWithin printer (stepped printer state ended)
+within-stepped printer state true strings within = within
+within-stepped printer state false strings within =
+    within-act printer (drop state.passed printer.prints) state (All-drop IsString state.passed printer.prints strings) (omega (arith, within.passed, length-drop state.passed printer.prints)) within
 
-within-after : (prints : List (List ℕ)) (n : ℕ) → All IsString prints → IsKeptWithin prints (after prints n)
+within-after : (printer : Printer) (n : ℕ) → All IsString printer.prints → IsKeptWithin printer (after printer n)
 unfolding after one
-within-after prints zero strings = record { passed = omega arith; console = omega arith; bytes = λ p. omega (arith, get_or_past {X = ℕ} [] p 0 (omega arith)) }
-within-after prints (suc n) strings =
-    let next = within-stepped prints (after prints n) (after prints n).ended strings (within-after prints n strings) in
-    record { passed = next.passed; console = next.console; bytes = next.bytes }
+within-after printer zero strings = record { priority = refl; passed = omega arith; console = omega arith; bytes = λ p. omega (arith, get_or_past {X = ℕ} [] p 0 (omega arith)) }
+within-after printer (suc n) strings =
+    let next = within-stepped printer (after printer n) (after printer n).ended strings (within-after printer n strings) in
+    record { priority = next.priority; passed = next.passed; console = next.console; bytes = next.bytes }
 
 -- the bounds hold throughout the uncut run
-pub after-bounded : (prints : List (List ℕ)) (n : ℕ) → length prints ≤ 120 → All IsString prints → IsBounded (after prints n)
-after-bounded prints n few strings =
-    let within = within-after prints n strings in
-    record { passed = omega (arith, within.passed, few); console = within.console; bytes = within.bytes }
+pub after-bounded : (printer : Printer) (n : ℕ) → IsPrinter printer → IsBounded (after printer n)
+after-bounded printer n is =
+    let within = within-after printer n is.strings in
+    record { priority = omega (arith, within.priority, is.priority); passed = omega (arith, within.passed, is.few); console = within.console; bytes = within.bytes }

@@ -2,23 +2,18 @@
 use Rattle.std.specs.Prelude.{◌≡◌, ℕ, ◌+◌, ◌<◌, ◌≤◌, false, List, [], ◌∷◌, length, Option, None, Some, All}
 use Rattle.nv_memory.specs.Budget.{first_budget, later_budgets}
 use Rattle.intos_run.specs.Kept.{IsKept, counter}
-use Rattle.intos_run.specs.Program.{IsString}
+use Rattle.intos_run.specs.Program.{Printer}
 use Rattle.intos_run.specs.Report.{goes_dark}
 
--- the strings of a program
-pub record AreStrings (prints : List (List ℕ)) : Type 0 where
-  pub few : length prints ≤ 120
-  pub strings : All IsString prints
-
 -- the words that a boot left show the uncut run after no fewer events than the words before, and at most all of them
-pub record IsLater (prints : List (List ℕ)) (steps : ℕ) (before left : List ℕ) : Type 0 where
-  pub kept : IsKept prints left
+pub record IsLater (printer : Printer) (steps : ℕ) (before left : List ℕ) : Type 0 where
+  pub kept : IsKept printer left
   pub later : counter before ≤ counter left
   pub within : counter left ≤ steps
 
 -- a boot that was cut: it didn't come to the last event, unless it went dark in its recovery
-pub record IsCutBoot (prints : List (List ℕ)) (steps : ℕ) (budget : Option ℕ) (before left : List ℕ) : Type 0 where
-  pub images : IsLater prints steps before left
+pub record IsCutBoot (printer : Printer) (steps : ℕ) (budget : Option ℕ) (before left : List ℕ) : Type 0 where
+  pub images : IsLater printer steps before left
   pub cause : goes_dark budget before ≡ false → counter left < steps
 
 -- a relation holds of each boot that was cut: its number, its budget, the words before and the words that it left

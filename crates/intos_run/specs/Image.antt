@@ -3,11 +3,12 @@ use Rattle.std.specs.Prelude.{ℕ, ◌+◌, ◌-◌, ◌*◌, ◌<◌, Bool, ◌
 use Rattle.undo_journal.specs.Undo.{magic}
 use Rattle.intos_run.specs.Uncut.{State}
 
--- the words that an event may change: the event counter, the thread's state, its end's code, the record words used
--- and the record words, the length of the console and its words
+-- the words that an event may change: the event counter, the thread's state, its priority, its end's code, the record
+-- words used and the record words, the length of the console and its words
 pub record Image : Type 0 where
   pub events : ℕ
   pub row : ℕ
+  pub priority : ℕ
   pub code : ℕ
   pub used : ℕ
   pub records : ℕ → ℕ
@@ -28,7 +29,7 @@ fixed_word image at =
     if at == 5 then image.length else
     if at == 6 then 2 else
     if at == 1152 then image.row else
-    if at == 1154 then 1 else
+    if at == 1154 then image.priority else
     if at == 1155 then image.code else
     if at == 1156 then 4294967295 else
     if at == 1167 then image.used else
@@ -59,6 +60,7 @@ unfoldable pub image_of : State → Image
 image_of state = record {
   events = state.events;
   row = if state.ended then 4 else 1;
+  priority = state.priority;
   code = 0;
   used = 2 * state.passed;
   records = recorded state.passed;

@@ -7,6 +7,7 @@ use Rattle.kernel_model.specs.Dump.{text_of}
 use Rattle.undo_journal.specs.Undo.{IsAtRest}
 use Rattle.intos_run.specs.Boots.{IsLater, IsCutBoot, EachBoot, IsAtMost}
 use Rattle.intos_run.specs.Kept.{counter}
+use Rattle.intos_run.specs.Program.{Printer}
 use Rattle.intos_run.specs.Report.{recovering, goes_dark, before_last, cut_boots, start_lines, end_line, report}
 
 -- how many steps the recoveries of the boots that were cut may take: as many as the writes that each needs
@@ -31,30 +32,30 @@ pub record HasBudgets (cuts : List ℕ) (ends : List (List ℕ)) (now : Option �
 
 -- Every image is kept for the uncut run: each boot that was cut left the words of the uncut run after no fewer events
 -- than before, and so did the last boot.
-pub record HasImages (prints : List (List ℕ)) (steps : ℕ) (cuts : List ℕ) (first : List ℕ) (ends : List (List ℕ)) (words : List ℕ) : Type 0 where
-  pub each : EachBoot (λ number. IsCutBoot prints steps) 1 cuts first ends
-  pub last : IsLater prints steps (before_last first ends) words
+pub record HasImages (printer : Printer) (steps : ℕ) (cuts : List ℕ) (first : List ℕ) (ends : List (List ℕ)) (words : List ℕ) : Type 0 where
+  pub each : EachBoot (λ number. IsCutBoot printer steps) 1 cuts first ends
+  pub last : IsLater printer steps (before_last first ends) words
 
 -- the lines of a run that came to the last event, without its dump
-abbrev pub lines_before_dump : List (List ℕ) → ℕ → List ℕ → List ℕ → List (List ℕ) → List (List ℕ)
-lines_before_dump prints steps cuts first ends =
-    cut_boots prints 1 cuts first ends
-    ++ (start_lines prints (length ends + 1) (before_last first ends) ++ end_line (length ends + 1) steps ∷ [])
+abbrev pub lines_before_dump : Printer → ℕ → List ℕ → List ℕ → List (List ℕ) → List (List ℕ)
+lines_before_dump printer steps cuts first ends =
+    cut_boots printer 1 cuts first ends
+    ++ (start_lines printer (length ends + 1) (before_last first ends) ++ end_line (length ends + 1) steps ∷ [])
 
 -- a run that came to the last event, before its dump
-pub record IsWhole {N : Type 0} (g : Ghosts N) (prints : List (List ℕ)) (steps : ℕ) (cuts first : List ℕ) (old new : Option (List ℕ)) (nv : N) : Type 0 where
+pub record IsWhole {N : Type 0} (g : Ghosts N) (printer : Printer) (steps : ℕ) (cuts first : List ℕ) (old new : Option (List ℕ)) (nv : N) : Type 0 where
   pub budgets : HasBudgets cuts (g.ends nv) (g.left nv) (g.to_come nv)
-  pub images : HasImages prints steps cuts first (g.ends nv) (g.words nv)
+  pub images : HasImages printer steps cuts first (g.ends nv) (g.words nv)
   pub complete : counter (g.words nv) ≡ steps
   pub at_rest : IsAtRest (g.words nv)
   pub live : goes_dark (first_budget (drop (length (g.ends nv)) cuts)) (before_last first (g.ends nv)) ≡ false
-  pub text : new ≡ put_to old (text_of (lines_before_dump prints steps cuts first (g.ends nv)))
+  pub text : new ≡ put_to old (text_of (lines_before_dump printer steps cuts first (g.ends nv)))
 
 -- a run that the sink's failure ended
-pub record IsBroken {N : Type 0} (g : Ghosts N) (prints : List (List ℕ)) (steps : ℕ) (cuts first : List ℕ) (old new : Option (List ℕ)) (nv : N) : Type 0 where
+pub record IsBroken {N : Type 0} (g : Ghosts N) (printer : Printer) (steps : ℕ) (cuts first : List ℕ) (old new : Option (List ℕ)) (nv : N) : Type 0 where
   pub budgets : HasBudgets cuts (g.ends nv) (g.left nv) (g.to_come nv)
-  pub images : HasImages prints steps cuts first (g.ends nv) (g.words nv)
-  pub text : IsPart old new (report prints steps cuts first (g.ends nv) (g.words nv))
+  pub images : HasImages printer steps cuts first (g.ends nv) (g.words nv)
+  pub text : IsPart old new (report printer steps cuts first (g.ends nv) (g.words nv))
 
 -- the device is as it was
 pub record IsUntouched {N : Type 0} (g : Ghosts N) (old new : N) : Type 0 where

@@ -1,19 +1,20 @@
 // One boot: recovery, the boot's lines, and event after event until the last one or a cut.
-ghost use Rattle.std.specs.Prelude.{◌≡◌, ◌+◌, ◌<◌, ◌≤◌, [], ◌∷◌, ◌++◌, List, ℕ, Some, IfOk, IfErr, MatchResult};
+ghost use Rattle.std.specs.Prelude.{◌≡◌, ◌+◌, ◌<◌, ◌≤◌, [], ◌∷◌, ◌++◌, List, ℕ, length, Some, IfOk, IfErr, MatchResult};
 ghost use Rattle.outer_world.specs.Causes.{HasCause};
 ghost use Rattle.outer_world.specs.Written.{put_to, IsPart, Puts};
 ghost use Rattle.kernel_model.specs.Dump.{text_of};
 ghost use Rattle.undo_journal.specs.Undo.{entries, IsAtRest, IsJournalled, durable, outside};
-ghost use Rattle.intos_run.specs.Boots.{AreStrings, IsAtMost};
+ghost use Rattle.intos_run.specs.Boots.{IsAtMost};
 ghost use Rattle.intos_run.specs.Ends.{MatchEnd, HasEndCause, EndsDone, EndsCut, EndsFailed, IsDone, IsCut, IsFailed};
 ghost use Rattle.intos_run.specs.Image.{stored};
 ghost use Rattle.intos_run.specs.Kept.{IsKept, counter as counter_of};
+ghost use Rattle.intos_run.specs.Program.{IsPrinter};
 ghost use Rattle.intos_run.specs.Report.{recovering, dark_line, start_line, thread_line, begin_lines};
 ghost use Rattle.intos_run.specs.Uncut.{State, IsBounded, after};
 
 use crate::event::event;
 use crate::layout::{COUNTER, JOURNAL_COUNT, MAGIC_WORD, READY, RECORDS_USED, ROW_STATE};
-use crate::prints::Prints;
+use crate::printer::Printer;
 use crate::recovery::recover;
 use crate::report_lines::{put_cut, put_dark, put_end, put_start, put_thread};
 use nv_memory::Nv;
@@ -43,46 +44,56 @@ struct Stopped<N: Nv> {
 fn put_live<S: Sink>(
     sink: &mut S,
     number: u32,
+    name: &[u8],
     events: u32,
     undone: u32,
     replayed: u32,
 ) -> Result<(), SinkFault>
-    ensures puts { Puts result (S.bytes sink.old) (S.bytes sink.new) (text_of (start_line number events undone replayed ∷ thread_line number ∷ [])) }
+    requires short { length name.now ≤ 24 }
+    ensures puts { Puts result (S.bytes sink.old) (S.bytes sink.new) (text_of (start_line number events undone replayed ∷ thread_line number name.now ∷ [])) }
     ensures cause { HasCause (S.faults sink.old) (S.faults sink.new) result }
 {
     put_start(sink, number, events, undone, replayed)?;
-    put_thread(sink, number)?;
+    put_thread(sink, number, name)?;
     Ok(())
 }
 
 /// Writes the lines behind a finished recovery.
 fn put_begin<N: Nv, S: Sink>(
     idle: &Idle<N>,
+    printer: &Printer,
     sink: &mut S,
     number: u32,
     undone: u32,
 ) -> Result<(), SinkFault>
     ensures puts { (state : State) → outside (N.words idle.now) ≡ stored state
-        → Puts result (S.bytes sink.old) (S.bytes sink.new) (text_of (begin_lines number state undone)) }
+        → Puts result (S.bytes sink.old) (S.bytes sink.new) (text_of (begin_lines number printer.now.name state undone)) }
     ensures cause { HasCause (S.faults sink.old) (S.faults sink.new) result }
 {
     let events = idle.word(COUNTER);
     if idle.word(ROW_STATE) == READY {
-        return put_live(sink, number, events, undone, idle.word(RECORDS_USED) / 2);
+        return put_live(
+            sink,
+            number,
+            printer.name(),
+            events,
+            undone,
+            idle.word(RECORDS_USED) / 2,
+        );
     }
     put_start(sink, number, events, undone, 0)
 }
 
 /// Event after event, until so many are committed or the power is cut.
-fn work<N: Nv>(idle: Idle<N>, prints: &Prints, steps: u32) -> Result<Idle<N>, Stopped<N>>
+fn work<N: Nv>(idle: Idle<N>, printer: &Printer, steps: u32) -> Result<Idle<N>, Stopped<N>>
     requires at_rest { IsAtRest (N.words idle) }
-    requires strings { AreStrings prints.now }
+    requires within_limits { IsPrinter printer.now }
     requires few { steps ≤ 1000000 }
-    requires stands { outside (N.words idle) ≡ stored (after prints.now (outside (N.words idle) 1)) }
+    requires stands { outside (N.words idle) ≡ stored (after printer.now (outside (N.words idle) 1)) }
     requires within { outside (N.words idle) 1 ≤ steps }
-    ensures done { IfOk result (λ next. outside (N.words next) ≡ stored (after prints.now steps)) }
+    ensures done { IfOk result (λ next. outside (N.words next) ≡ stored (after printer.now steps)) }
     ensures at_rest { IfOk result (λ next. IsAtRest (N.words next)) }
-    ensures stopped { IfErr result (λ stopped. durable (N.words stopped.dark) ≡ stored (after prints.now stopped.events)) }
+    ensures stopped { IfErr result (λ stopped. durable (N.words stopped.dark) ≡ stored (after printer.now stopped.events)) }
     ensures some { IfErr result (λ stopped. stopped.events < steps) }
     ensures later { IfErr result (λ stopped. outside (N.words idle) 1 ≤ stopped.events) }
     ensures journalled { IfErr result (λ stopped. IsJournalled (N.words stopped.dark)) }
@@ -94,7 +105,7 @@ fn work<N: Nv>(idle: Idle<N>, prints: &Prints, steps: u32) -> Result<Idle<N>, St
     let mut idle = idle;
     let mut events = idle.word(COUNTER);
     while events < steps {
-        match event(idle, prints) {
+        match event(idle, printer) {
             Ok(next) => {
                 idle = next;
                 events += 1;
@@ -111,25 +122,25 @@ fn live<N: Nv, S: Sink>(
     idle: Idle<N>,
     number: u32,
     undone: u32,
-    prints: &Prints,
+    printer: &Printer,
     steps: u32,
     sink: &mut S,
 ) -> BootEnd<N>
     requires at_rest { IsAtRest (N.words idle) }
-    requires strings { AreStrings prints.now }
+    requires within_limits { IsPrinter printer.now }
     requires few { steps ≤ 1000000 }
-    requires stands { outside (N.words idle) ≡ stored (after prints.now (outside (N.words idle) 1)) }
+    requires stands { outside (N.words idle) ≡ stored (after printer.now (outside (N.words idle) 1)) }
     requires within { outside (N.words idle) 1 ≤ steps }
     ensures ends { MatchEnd result
-        (EndsDone N.Nv prints.now steps number undone idle (S.bytes sink.old) (S.bytes sink.new))
-        (EndsCut N.Nv prints.now steps number undone idle (S.bytes sink.old) (S.bytes sink.new))
-        (EndsFailed N.Nv prints.now steps number undone idle (S.bytes sink.old) (S.bytes sink.new)) }
+        (EndsDone N.Nv printer.now steps number undone idle (S.bytes sink.old) (S.bytes sink.new))
+        (EndsCut N.Nv printer.now steps number undone idle (S.bytes sink.old) (S.bytes sink.new))
+        (EndsFailed N.Nv printer.now steps number undone idle (S.bytes sink.old) (S.bytes sink.new)) }
     ensures cause { HasEndCause result (S.faults sink.old) (S.faults sink.new) }
 {
-    if put_begin(&idle, sink, number, undone).is_err() {
+    if put_begin(&idle, printer, sink, number, undone).is_err() {
         return BootEnd::SinkFailed(idle.rest());
     }
-    match work(idle, prints, steps) {
+    match work(idle, printer, steps) {
         Ok(idle) => {
             if put_end(sink, number, steps).is_err() {
                 return BootEnd::SinkFailed(idle.rest());
@@ -174,27 +185,27 @@ fn dark<N: Nv, S: Sink>(dark: Dark<N>, number: u32, formatted: bool, sink: &mut 
 pub fn boot<N: Nv, S: Sink, L: Ledger>(
     nv: N,
     number: u32,
-    prints: &Prints,
+    printer: &Printer,
     steps: u32,
     sink: &mut S,
     counter: &mut Steps<L>,
 ) -> BootEnd<N>
-    requires kept { IsKept prints.now (N.words nv) }
+    requires kept { IsKept printer.now (N.words nv) }
     requires within { counter_of (N.words nv) ≤ steps }
-    requires strings { AreStrings prints.now }
+    requires within_limits { IsPrinter printer.now }
     requires few { steps ≤ 1000000 }
     ensures ends { MatchEnd result
-        (IsDone N.Nv prints.now steps number nv (S.bytes sink.old) (S.bytes sink.new))
-        (IsCut N.Nv prints.now steps number nv (S.bytes sink.old) (S.bytes sink.new))
-        (IsFailed N.Nv prints.now steps number nv (S.bytes sink.old) (S.bytes sink.new)) }
+        (IsDone N.Nv printer.now steps number nv (S.bytes sink.old) (S.bytes sink.new))
+        (IsCut N.Nv printer.now steps number nv (S.bytes sink.old) (S.bytes sink.new))
+        (IsFailed N.Nv printer.now steps number nv (S.bytes sink.old) (S.bytes sink.new)) }
     ensures cause { HasEndCause result (S.faults sink.old) (S.faults sink.new) }
     ensures counted { counter.old ≤ counter.new }
     ensures steps { counter.new ≤ counter.old + recovering (N.words nv) }
 {
     let undone = entries_of(&nv);
     let formatted = nv.read(MAGIC_WORD) == MAGIC;
-    match recover(nv, counter) {
-        Ok(idle) => live(idle, number, undone, prints, steps, sink),
+    match recover(nv, printer, counter) {
+        Ok(idle) => live(idle, number, undone, printer, steps, sink),
         Err(lost) => dark(lost, number, formatted, sink),
     }
 }

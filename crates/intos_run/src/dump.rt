@@ -6,6 +6,7 @@ ghost use Rattle.undo_journal.specs.Undo.{outside};
 ghost use Rattle.kernel_model.specs.Dump.{console_line, console_lines, console_size_line, dump_lines, events_line, ready_line, row_line, text_of, ticks_line};
 ghost use Rattle.kernel_model.specs.declared.row_state.RowState.TheVariants.{Ready, Ended};
 ghost use Rattle.intos_run.specs.Image.{stored};
+ghost use Rattle.intos_run.specs.Program.{Printer as PrinterOf};
 ghost use Rattle.intos_run.specs.Shown.{names, visible};
 ghost use Rattle.intos_run.specs.Uncut.{State, IsBounded};
 
@@ -13,6 +14,7 @@ use crate::layout::{
     CONSOLE, CONSOLE_LENGTH, COUNTER, ENDED, ROW_CODE, ROW_PRIORITY, ROW_STATE, TICKS,
 };
 use crate::line::Line;
+use crate::printer::Printer;
 use arrayvec::ArrayVec;
 use nv_memory::Nv;
 use outer_world::{Sink, SinkFault};
@@ -169,13 +171,16 @@ fn put_counters<S: Sink>(events: u32, ticks: u32, sink: &mut S) -> Result<(), Si
 }
 
 /// The line of the thread, which is ready or has ended with a code.
-#[tactic(auto, using(crate::proofs::ShownTexts::row_texts))]
-fn row(priority: u32, ended: bool, code: u32) -> Line
-    ensures text { result ≡ row_line names 0
+fn row(name: &[u8], priority: u32, ended: bool, code: u32) -> Line
+    requires short { length name.now ≤ 24 }
+    ensures text { (printer : PrinterOf) → printer.name ≡ name.now → result ≡ row_line (names printer) 0
         (record { template = 0; priority = priority; state = if ended then Ended code else Ready }) }
     ensures room { length result < 128 }
 {
-    let line = Line::new("thread 0 t priority ").number(priority);
+    let line = Line::new("thread 0 ")
+        .bytes(name)
+        .word(" priority ")
+        .number(priority);
     if ended {
         line.word(" ended ").number(code)
     } else {
@@ -184,13 +189,19 @@ fn row(priority: u32, ended: bool, code: u32) -> Line
 }
 
 /// Puts the line of the thread.
-fn put_row<S: Sink>(priority: u32, ended: bool, code: u32, sink: &mut S) -> Result<(), SinkFault>
+fn put_row<S: Sink>(
+    printer: &Printer,
+    priority: u32,
+    ended: bool,
+    code: u32,
+    sink: &mut S,
+) -> Result<(), SinkFault>
     ensures puts { Puts result (S.bytes sink.old) (S.bytes sink.new)
-        (text_of (row_line names 0
+        (text_of (row_line (names printer.now) 0
         (record { template = 0; priority = priority; state = if ended then Ended code else Ready }) ∷ [])) }
     ensures cause { HasCause (S.faults sink.old) (S.faults sink.new) result }
 {
-    row(priority, ended, code).put(sink)?;
+    row(printer.name(), priority, ended, code).put(sink)?;
     Ok(())
 }
 
@@ -214,14 +225,20 @@ fn put_ready<S: Sink>(priority: u32, sink: &mut S) -> Result<(), SinkFault>
 }
 
 /// Puts the line of the thread, and that of its ready list unless it has ended.
-fn put_thread<S: Sink>(priority: u32, ended: bool, code: u32, sink: &mut S) -> Result<(), SinkFault>
+fn put_thread<S: Sink>(
+    printer: &Printer,
+    priority: u32,
+    ended: bool,
+    code: u32,
+    sink: &mut S,
+) -> Result<(), SinkFault>
     ensures puts { Puts result (S.bytes sink.old) (S.bytes sink.new)
-        (text_of (row_line names 0
+        (text_of (row_line (names printer.now) 0
         (record { template = 0; priority = priority; state = if ended then Ended code else Ready })
         ∷ (if ended then [] else ready_line priority (0 ∷ []) ∷ []))) }
     ensures cause { HasCause (S.faults sink.old) (S.faults sink.new) result }
 {
-    put_row(priority, ended, code, sink)?;
+    put_row(printer, priority, ended, code, sink)?;
     if !ended {
         put_ready(priority, sink)?;
     }
@@ -233,10 +250,14 @@ fn put_thread<S: Sink>(priority: u32, ended: bool, code: u32, sink: &mut S) -> R
 /// # Errors
 ///
 /// `SinkFault` where the sink didn't take all of it.
-pub fn put_dump<N: Nv, S: Sink>(idle: &Idle<N>, sink: &mut S) -> Result<(), SinkFault>
+pub fn put_dump<N: Nv, S: Sink>(
+    idle: &Idle<N>,
+    printer: &Printer,
+    sink: &mut S,
+) -> Result<(), SinkFault>
     requires stands { (state : State) × (outside (N.words idle.now) ≡ stored state) × IsBounded state }
     ensures puts { (state : State) → outside (N.words idle.now) ≡ stored state → IsBounded state
-        → Puts result (S.bytes sink.old) (S.bytes sink.new) (text_of (dump_lines names (visible state))) }
+        → Puts result (S.bytes sink.old) (S.bytes sink.new) (text_of (dump_lines (names printer.now) (visible state))) }
     ensures cause { HasCause (S.faults sink.old) (S.faults sink.new) result }
 {
     let events = idle.word(COUNTER);
@@ -246,7 +267,7 @@ pub fn put_dump<N: Nv, S: Sink>(idle: &Idle<N>, sink: &mut S) -> Result<(), Sink
     let code = idle.word(ROW_CODE);
     let console = read_console(idle);
     put_counters(events, ticks, sink)?;
-    put_thread(priority, ended, code, sink)?;
+    put_thread(printer, priority, ended, code, sink)?;
     put_console(console.as_slice(), sink)?;
     Ok(())
 }

@@ -8,13 +8,13 @@ ghost use Rattle.intos_run.specs.Uncut.{State, IsBounded, act, stepped, one};
 
 use crate::console::append;
 use crate::layout::{COUNTER, READY, RECORDS_USED, ROW_STATE};
-use crate::prints::Prints;
+use crate::printer::Printer;
 use crate::thread::{end, record_print};
 use nv_memory::{Cut, Nv};
 use undo_journal::{Dark, Idle, Open, Words};
 
-/// The thread's next action: it prints its next string, or it ends.
-fn perform<N: Nv>(tx: &mut Open<N>, prints: &Prints) -> Result<(), Cut>
+/// The thread's next action: it printer its next string, or it ends.
+fn perform<N: Nv>(tx: &mut Open<N>, printer: &Printer) -> Result<(), Cut>
     requires room { 21 ≤ room_of (N.words tx.old) }
     requires stands { (state : State) × (outside (N.words tx.old) ≡ stored state) × IsBounded state }
     ensures cut { IsErr result → IsShort (N.left tx.old) 84 }
@@ -22,10 +22,10 @@ fn perform<N: Nv>(tx: &mut Open<N>, prints: &Prints) -> Result<(), Cut>
     ensures lent { IsLent N.Nv tx.old tx.new }
     ensures within { OnOk result (IsWithin N.Nv tx.old tx.new 21) }
     ensures acted { OnOk result ((state : State) → outside (N.words tx.old) ≡ stored state
-        → outside (N.words tx.new) ≡ stored (act state (drop state.passed prints.now))) }
+        → outside (N.words tx.new) ≡ stored (act state (drop state.passed printer.now.prints))) }
 {
     let used = tx.word(RECORDS_USED);
-    match prints.get(used / 2) {
+    match printer.get(used / 2) {
         Some(string) => {
             append(tx, string.bytes())?;
             record_print(tx, used)?;
@@ -39,7 +39,7 @@ fn perform<N: Nv>(tx: &mut Open<N>, prints: &Prints) -> Result<(), Cut>
 }
 
 /// Runs the thread, unless it has ended.
-fn step<N: Nv>(tx: &mut Open<N>, prints: &Prints) -> Result<(), Cut>
+fn step<N: Nv>(tx: &mut Open<N>, printer: &Printer) -> Result<(), Cut>
     requires room { 21 ≤ room_of (N.words tx.old) }
     requires stands { (state : State) × (outside (N.words tx.old) ≡ stored state) × IsBounded state }
     ensures cut { IsErr result → IsShort (N.left tx.old) 84 }
@@ -47,17 +47,17 @@ fn step<N: Nv>(tx: &mut Open<N>, prints: &Prints) -> Result<(), Cut>
     ensures lent { IsLent N.Nv tx.old tx.new }
     ensures within { OnOk result (IsWithin N.Nv tx.old tx.new 21) }
     ensures stepped { OnOk result ((state : State) → outside (N.words tx.old) ≡ stored state
-        → outside (N.words tx.new) ≡ stored (stepped prints.now state state.ended)) }
+        → outside (N.words tx.new) ≡ stored (stepped printer.now state state.ended)) }
 {
     if tx.word(ROW_STATE) == READY {
-        perform(tx, prints)?;
+        perform(tx, printer)?;
         return Ok(());
     }
     Ok(())
 }
 
 /// Runs the thread and counts the event.
-fn happen<N: Nv>(tx: &mut Open<N>, prints: &Prints) -> Result<(), Cut>
+fn happen<N: Nv>(tx: &mut Open<N>, printer: &Printer) -> Result<(), Cut>
     requires room { 22 ≤ room_of (N.words tx.old) }
     requires stands { (state : State) × (outside (N.words tx.old) ≡ stored state) × IsBounded state × (state.events + 1 < 2 ^ 32) }
     ensures cut { IsErr result → IsShort (N.left tx.old) 88 }
@@ -65,10 +65,10 @@ fn happen<N: Nv>(tx: &mut Open<N>, prints: &Prints) -> Result<(), Cut>
     ensures lent { IsLent N.Nv tx.old tx.new }
     ensures within { OnOk result (IsWithin N.Nv tx.old tx.new 22) }
     ensures happened { OnOk result ((state : State) → outside (N.words tx.old) ≡ stored state
-        → outside (N.words tx.new) ≡ stored (one prints.now state)) }
+        → outside (N.words tx.new) ≡ stored (one printer.now state)) }
 {
     let events = tx.word(COUNTER);
-    step(tx, prints)?;
+    step(tx, printer)?;
     tx.put(COUNTER, events + 1)?;
     Ok(())
 }
@@ -76,10 +76,10 @@ fn happen<N: Nv>(tx: &mut Open<N>, prints: &Prints) -> Result<(), Cut>
 /// One event of the uncut run, in one transaction. `Dark` comes only where fewer writes were left than an event may
 /// take, and the undone words are then as before.
 #[tactic(auto, using(crate::proofs::LawSets::losing))]
-pub fn event<N: Nv>(idle: Idle<N>, prints: &Prints) -> Result<Idle<N>, Dark<N>>
+pub fn event<N: Nv>(idle: Idle<N>, printer: &Printer) -> Result<Idle<N>, Dark<N>>
     requires at_rest { IsAtRest (N.words idle) }
     requires stands { (state : State) × (outside (N.words idle) ≡ stored state) × IsBounded state × (state.events + 1 < 2 ^ 32) }
-    ensures happened { IfOk result (λ next. (state : State) → outside (N.words idle) ≡ stored state → outside (N.words next) ≡ stored (one prints.now state)) }
+    ensures happened { IfOk result (λ next. (state : State) → outside (N.words idle) ≡ stored state → outside (N.words next) ≡ stored (one printer.now state)) }
     ensures at_rest { IfOk result (λ next. IsAtRest (N.words next)) }
     ensures short { IsErr result → IsShort (N.left idle) 6400 }
     ensures dark { IfErr result (λ dark. N.left dark ≡ Some 0) }
@@ -90,7 +90,7 @@ pub fn event<N: Nv>(idle: Idle<N>, prints: &Prints) -> Result<Idle<N>, Dark<N>>
     ensures ends { MatchResult result (λ next. N.ends next ≡ N.ends idle) (λ dark. N.ends dark ≡ N.ends idle) }
 {
     let mut tx = idle.begin();
-    if happen(&mut tx, prints).is_err() {
+    if happen(&mut tx, printer).is_err() {
         return Err(tx.lose());
     }
     let next = tx.commit()?;

@@ -8,6 +8,7 @@ ghost use Rattle.intos_run.specs.Uncut.{initial};
 use crate::layout::{
     HEAP_HOLE, HOLE_SIZE, MAGIC_WORD, NEXT_STAMP, READY, ROW_PRIORITY, ROW_STATE, ROW_WAKE,
 };
+use crate::printer::Printer;
 use nv_memory::{Cut, Nv, WORDS};
 use std::sync::ledger::Ledger;
 use step_counter::Steps;
@@ -15,16 +16,16 @@ use undo_journal::MAGIC;
 
 /// The word that formatting writes at a place: thread 0 is ready, the heap is one hole, and all else is 0.
 #[tactic(auto, using(crate::proofs::InitialLemmas::stored_initial), unfolding(crate::specs::Image::word_of, crate::specs::Image::fixed_word, crate::specs::Image::image_of))]
-fn initial_word(at: u32) -> u32
+fn initial_word(printer: &Printer, at: u32) -> u32
     requires within { at < 16384 }
-    ensures word { result ≡ stored initial at }
+    ensures word { result ≡ stored (initial printer.now) at }
 {
     match at {
         MAGIC_WORD => MAGIC,
         NEXT_STAMP => 1,
         HEAP_HOLE => 2,
         ROW_STATE => READY,
-        ROW_PRIORITY => 1,
+        ROW_PRIORITY => printer.priority(),
         ROW_WAKE => u32::MAX,
         HOLE_SIZE => 4_094,
         _ => 0,
@@ -33,11 +34,15 @@ fn initial_word(at: u32) -> u32
 
 /// Writes the initial words 1 to 16,383 and then the magic word. `Cut` comes exactly where fewer writes are left.
 #[tactic(auto, using(crate::proofs::LawSets::formatting))]
-pub fn format<N: Nv, L: Ledger>(nv: &mut N, steps: &mut Steps<L>) -> Result<(), Cut>
+pub fn format<N: Nv, L: Ledger>(
+    nv: &mut N,
+    printer: &Printer,
+    steps: &mut Steps<L>,
+) -> Result<(), Cut>
     requires blank { slice_index (N.words nv.old) 0 ≡ 0 }
     ensures cut { IsErr result ↔ IsShort (N.left nv.old) 16384 }
     ensures at_rest { OnOk result (IsAtRest (N.words nv.new)) }
-    ensures initial { OnOk result (outside (N.words nv.new) ≡ stored initial) }
+    ensures initial { OnOk result (outside (N.words nv.new) ≡ stored (initial printer.now)) }
     ensures blank { OnErr result (slice_index (N.words nv.new) 0 ≡ 0) }
     ensures left { N.left nv.new ≡ spent (N.left nv.old) 16384 }
     ensures to_come { N.to_come nv.new ≡ N.to_come nv.old }
@@ -47,7 +52,7 @@ pub fn format<N: Nv, L: Ledger>(nv: &mut N, steps: &mut Steps<L>) -> Result<(), 
 {
     for at in 1..WORDS {
         steps.tick();
-        nv.write(at, initial_word(at))?;
+        nv.write(at, initial_word(printer, at))?;
     }
     steps.tick();
     nv.write(MAGIC_WORD, MAGIC)?;

@@ -10,15 +10,16 @@ mod command;
 mod console;
 mod dump;
 mod event;
+mod fault;
 mod formatting;
 mod job;
 mod layout;
 mod line;
-mod prints;
-mod program_text;
+mod printer;
 mod recovery;
 mod refusal;
 mod report_lines;
+mod serving;
 mod thread;
 mod top;
 

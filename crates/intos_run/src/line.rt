@@ -4,7 +4,7 @@ ghost use Rattle.std.specs.Fmt.{decimal};
 ghost use Rattle.outer_world.specs.Causes.{HasCause};
 ghost use Rattle.outer_world.specs.Written.{Puts};
 
-use arrayvec::ArrayString;
+use arrayvec::ArrayVec;
 use itoa::Buffer;
 use outer_world::{Sink, SinkFault};
 use std::marker::Model;
@@ -12,7 +12,7 @@ use std::marker::Model;
 /// A line of at most 128 bytes with its newline, which it gets when it is put. Contracts see its bytes so far.
 #[derive(Drop)]
 pub struct Line {
-    text: ArrayString<128>,
+    text: ArrayVec<u8, 128>,
 }
 
 impl Model for Line {
@@ -20,7 +20,7 @@ impl Model for Line {
 
     ghost Value = { List ℕ };
 
-    ghost view = { λ s. s.text.bytes };
+    ghost view = { λ s. s.text.items };
 }
 
 impl Line {
@@ -29,8 +29,8 @@ impl Line {
         requires room { length word.now < 128 }
         ensures text { result ≡ word.now }
     {
-        let mut text = ArrayString::new();
-        text.push_str(word);
+        let mut text = ArrayVec::new();
+        text.try_extend_from_slice(word.as_bytes()).unwrap();
         Line { text }
     }
 
@@ -40,8 +40,17 @@ impl Line {
         ensures text { result ≡ self ++ word.now }
         ensures len { length result ≡ length self + length word.now }
     {
+        self.bytes(word.as_bytes())
+    }
+
+    /// The line with bytes behind it.
+    pub fn bytes(self, bytes: &[u8]) -> Line
+        requires room { length self + length bytes.now < 128 }
+        ensures text { result ≡ self ++ bytes.now }
+        ensures len { length result ≡ length self + length bytes.now }
+    {
         let Line { mut text } = self;
-        text.push_str(word);
+        text.try_extend_from_slice(bytes).unwrap();
         Line { text }
     }
 
@@ -53,7 +62,8 @@ impl Line {
     {
         let Line { mut text } = self;
         let mut digits = Buffer::new();
-        text.push_str(digits.format(number));
+        text.try_extend_from_slice(digits.format(number).as_bytes())
+            .unwrap();
         Line { text }
     }
 
@@ -68,8 +78,8 @@ impl Line {
         ensures cause { HasCause (S.faults sink.old) (S.faults sink.new) result }
     {
         let Line { mut text } = self;
-        text.push('\n');
-        sink.put(text.as_str().as_bytes())?;
+        text.push(b'\n');
+        sink.put(text.as_slice())?;
         Ok(())
     }
 }

@@ -1,5 +1,5 @@
 // The lines that report the boots of a run.
-ghost use Rattle.std.specs.Prelude.{◌≡◌, ◌<◌, [], ◌∷◌, ◌++◌, length};
+ghost use Rattle.std.specs.Prelude.{◌≡◌, ◌<◌, ◌≤◌, [], ◌∷◌, ◌++◌, length};
 ghost use Rattle.outer_world.specs.Causes.{HasCause};
 ghost use Rattle.outer_world.specs.Written.{Puts};
 ghost use Rattle.kernel_model.specs.Dump.{text_of};
@@ -66,19 +66,22 @@ pub fn put_start<S: Sink>(
     Ok(())
 }
 
-/// Puts the line of the thread, which has no locals, at the beginning of a boot.
+/// Puts the line of the thread of this name, which has no locals, at the beginning of a boot.
 ///
 /// # Errors
 ///
 /// `SinkFault` where the sink didn't take all of it.
 #[tactic(auto, unfolding(crate::specs::Report::thread_line))]
-pub fn put_thread<S: Sink>(sink: &mut S, number: u32) -> Result<(), SinkFault>
-    ensures puts { Puts result (S.bytes sink.old) (S.bytes sink.new) (thread_line number ++ 10 ∷ []) }
+pub fn put_thread<S: Sink>(sink: &mut S, number: u32, name: &[u8]) -> Result<(), SinkFault>
+    requires short { length name.now ≤ 24 }
+    ensures puts { Puts result (S.bytes sink.old) (S.bytes sink.new) (thread_line number name.now ++ 10 ∷ []) }
     ensures cause { HasCause (S.faults sink.old) (S.faults sink.new) result }
 {
     Line::new("boot ")
         .number(number)
-        .word(" thread 0 t:")
+        .word(" thread 0 ")
+        .bytes(name)
+        .word(":")
         .put(sink)?;
     Ok(())
 }

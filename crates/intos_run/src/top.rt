@@ -5,21 +5,24 @@ ghost use Rattle.outer_world.specs.Causes.{HasCause, Rose, RoseBy};
 ghost use Rattle.outer_world.specs.Written.{put_to, IsPart, Puts};
 ghost use Rattle.kernel_model.specs.Dump.{dump_lines, text_of};
 ghost use Rattle.undo_journal.specs.Undo.{IsAtRest, outside};
-ghost use Rattle.intos_run.specs.Boots.{AreStrings};
 ghost use Rattle.intos_run.specs.Command.{IsCommand};
 ghost use Rattle.intos_run.specs.Image.{stored};
 ghost use Rattle.intos_run.specs.Kept.{counter};
-ghost use Rattle.intos_run.specs.Refusals.{program_line, IsStatus, IsRefusal, IsUndefined, IsNoProgram, Tells, line_of, status_of};
+ghost use Rattle.intos_run.specs.Refusals.{IsStatus, IsRefusal, IsUndefined, Tells, line_of, status_of, faulty_line};
+ghost use Rattle.intos_run.specs.Program.{IsPrinter};
 ghost use Rattle.intos_run.specs.Report.{report};
 ghost use Rattle.intos_run.specs.Runs.{StepsWithin, HasBudgets, HasImages, IsUntouched};
 ghost use Rattle.intos_run.specs.Shown.{names, visible};
-ghost use Rattle.intos_run.specs.Top.{Task, Asks, IsAccepted};
+ghost use Rattle.intos_run.specs.Top.{Task, Asks, AreAccepted, IsRefusedBy};
 ghost use Rattle.intos_run.specs.Uncut.{State, IsBounded};
-ghost use Rattle.intos_run.specs.declared.refusal.Refusal.TheVariants.{Usage, ProgramUnread, ProgramTooLong, ProgramNotYet, NoMemory};
+ghost use Rattle.intos_run.specs.declared.fault.Fault.{Fault};
+ghost use Rattle.intos_run.specs.declared.refusal.Refusal.TheVariants.{NoMemory};
+ghost use Rattle.thread_tree.specs.declared.place.Place.{Place};
 
 use crate::boots::run_boots;
 use crate::dump::put_dump;
 use crate::job::{Job, read_job};
+use crate::printer::Printer;
 use crate::refusal::Refusal;
 use nv_memory::Nv;
 use outer_world::{Files, Sink};
@@ -55,7 +58,12 @@ fn refuse<N: Nv, S: Sink>(refusal: Refusal, sink: &mut S, nv: N) -> Ended<N>
 /// # Errors
 ///
 /// The device, where the sink failed.
-fn dump<N: Nv, S: Sink, L: Ledger>(nv: N, sink: &mut S, steps: &mut Steps<L>) -> Result<N, N>
+fn dump<N: Nv, S: Sink, L: Ledger>(
+    nv: N,
+    printer: &Printer,
+    sink: &mut S,
+    steps: &mut Steps<L>,
+) -> Result<N, N>
     requires at_rest { IsAtRest (N.words nv) }
     requires stands { (state : State) × (outside (N.words nv) ≡ stored state) × IsBounded state }
     ensures words { MatchResult result (λ same. N.words same ≡ N.words nv) (λ same. N.words same ≡ N.words nv) }
@@ -63,12 +71,12 @@ fn dump<N: Nv, S: Sink, L: Ledger>(nv: N, sink: &mut S, steps: &mut Steps<L>) ->
     ensures to_come { MatchResult result (λ same. N.to_come same ≡ N.to_come nv) (λ same. N.to_come same ≡ N.to_come nv) }
     ensures ends { MatchResult result (λ same. N.ends same ≡ N.ends nv) (λ same. N.ends same ≡ N.ends nv) }
     ensures puts { (state : State) → outside (N.words nv) ≡ stored state → IsBounded state
-        → Puts result (S.bytes sink.old) (S.bytes sink.new) (text_of (dump_lines names (visible state))) }
+        → Puts result (S.bytes sink.old) (S.bytes sink.new) (text_of (dump_lines (names printer.now) (visible state))) }
     ensures cause { HasCause (S.faults sink.old) (S.faults sink.new) result }
     ensures steps { steps.new ≡ steps.old }
 {
     match settle(nv, steps) {
-        Ok(idle) => match put_dump(&idle, sink) {
+        Ok(idle) => match put_dump(&idle, printer, sink) {
             Ok(()) => Ok(idle.rest()),
             Err(_) => Err(idle.rest()),
         },
@@ -88,15 +96,15 @@ fn run_job<N: Nv, S: Sink, L: Ledger>(
     requires mains { N.left nv ≡ None }
     requires none_to_come { N.to_come nv ≡ [] }
     requires no_ends { N.ends nv ≡ [] }
-    requires strings { AreStrings job.now.prints }
+    requires within_limits { IsPrinter job.now.printer }
     requires few_steps { job.now.steps ≤ 1000000 }
     requires few_cuts { length job.now.cuts.items ≤ 1000 }
     ensures statuses { (result.status ≡ 0) ⊎ ((result.status ≡ 6) ⊎ (result.status ≡ 7)) }
     ensures budgets { result.status ≢ 7 → HasBudgets job.now.cuts.items (N.ends result.nv) (N.left result.nv) (N.to_come result.nv) }
-    ensures images { result.status ≢ 7 → HasImages job.now.prints job.now.steps job.now.cuts.items (N.words nv) (N.ends result.nv) (N.words result.nv) }
+    ensures images { result.status ≢ 7 → HasImages job.now.printer job.now.steps job.now.cuts.items (N.words nv) (N.ends result.nv) (N.words result.nv) }
     ensures complete { result.status ≡ 0 → counter (N.words result.nv) ≡ job.now.steps }
-    ensures text { result.status ≡ 0 → S.bytes sink.new ≡ put_to (S.bytes sink.old) (report job.now.prints job.now.steps job.now.cuts.items (N.words nv) (N.ends result.nv) (N.words result.nv)) }
-    ensures part { result.status ≡ 6 → IsPart (S.bytes sink.old) (S.bytes sink.new) (report job.now.prints job.now.steps job.now.cuts.items (N.words nv) (N.ends result.nv) (N.words result.nv)) }
+    ensures text { result.status ≡ 0 → S.bytes sink.new ≡ put_to (S.bytes sink.old) (report job.now.printer job.now.steps job.now.cuts.items (N.words nv) (N.ends result.nv) (N.words result.nv)) }
+    ensures part { result.status ≡ 6 → IsPart (S.bytes sink.old) (S.bytes sink.new) (report job.now.printer job.now.steps job.now.cuts.items (N.words nv) (N.ends result.nv) (N.words result.nv)) }
     ensures broken { result.status ≡ 6 → Rose (S.faults sink.old) (S.faults sink.new) }
     ensures faults { result.status ≡ 0 → S.faults sink.new ≡ S.faults sink.old }
     ensures memory { result.status ≡ 7 → Tells (line_of NoMemory) (S.bytes sink.old) (S.bytes sink.new) (S.faults sink.old) (S.faults sink.new) }
@@ -107,8 +115,8 @@ fn run_job<N: Nv, S: Sink, L: Ledger>(
     if nv.plan(alloc, &job.cuts).is_err() {
         return refuse(Refusal::NoMemory, sink, nv);
     }
-    match run_boots(nv, &job.prints, job.steps, sink, steps) {
-        Ok(done) => match dump(done, sink, steps) {
+    match run_boots(nv, &job.printer, job.steps, sink, steps) {
+        Ok(done) => match dump(done, &job.printer, sink, steps) {
             Ok(nv) => Ended { status: 0, nv },
             Err(nv) => Ended { status: 6, nv },
         },
@@ -140,14 +148,14 @@ pub fn run<F: Files, S: Sink, N: Nv, L: Ledger>(
 
     // Every image and the last words are kept for the uncut run, and the events that they count never fall.
     ensures images { result.status ≡ 0 ⊎ result.status ≡ 6 → (task : Task) → Asks (map string_bytes words.now.items) (F.contents files.old) task
-        → HasImages task.prints task.steps task.cuts (N.words nv) (N.ends result.nv) (N.words result.nv) }
+        → HasImages task.printer task.steps task.cuts (N.words nv) (N.ends result.nv) (N.words result.nv) }
 
     // With status 0 every event is committed, and the bytes put are the report; with status 6 a prefix of it.
     ensures complete { result.status ≡ 0 → (task : Task) → Asks (map string_bytes words.now.items) (F.contents files.old) task → counter (N.words result.nv) ≡ task.steps }
     ensures text { result.status ≡ 0 → (task : Task) → Asks (map string_bytes words.now.items) (F.contents files.old) task
-        → S.bytes sink.new ≡ put_to (S.bytes sink.old) (report task.prints task.steps task.cuts (N.words nv) (N.ends result.nv) (N.words result.nv)) }
+        → S.bytes sink.new ≡ put_to (S.bytes sink.old) (report task.printer task.steps task.cuts (N.words nv) (N.ends result.nv) (N.words result.nv)) }
     ensures text_so_far { result.status ≡ 6 → (task : Task) → Asks (map string_bytes words.now.items) (F.contents files.old) task
-        → IsPart (S.bytes sink.old) (S.bytes sink.new) (report task.prints task.steps task.cuts (N.words nv) (N.ends result.nv) (N.words result.nv)) }
+        → IsPart (S.bytes sink.old) (S.bytes sink.new) (report task.printer task.steps task.cuts (N.words nv) (N.ends result.nv) (N.words result.nv)) }
 
     // Each status has its cause, and a run that isn't begun puts its line and nothing else.
     ensures statuses { IsStatus result.status }
@@ -158,12 +166,13 @@ pub fn run<F: Files, S: Sink, N: Nv, L: Ledger>(
     ensures unread_line { result.status ≡ 3 → Tells (codes "cannot read program") (S.bytes sink.old) (S.bytes sink.new) (S.faults sink.old) (S.faults sink.new) }
     ensures refused { result.status ≡ 4 → (name : List ℕ) (steps : ℕ) (cuts : List ℕ) (text : List ℕ) → IsCommand (map string_bytes words.now.items) name steps cuts
         → F.contents files.old name ≡ Some text
-        → IsNoProgram text × Tells (program_line text) (S.bytes sink.old) (S.bytes sink.new) (S.faults sink.old) (S.faults sink.new) }
+        → (line : List ℕ) × IsRefusedBy text line × Tells line (S.bytes sink.old) (S.bytes sink.new) (S.faults sink.old) (S.faults sink.new) }
     ensures untold { result.status ≡ 4
         → (RoseBy 65537 (F.taken files.old) (F.taken files.new) × Tells (codes "program TooLong") (S.bytes sink.old) (S.bytes sink.new) (S.faults sink.old) (S.faults sink.new))
-        ⊎ Tells (codes "program NotYet") (S.bytes sink.old) (S.bytes sink.new) (S.faults sink.old) (S.faults sink.new) }
+        ⊎ (Tells (codes "program NotYet") (S.bytes sink.old) (S.bytes sink.new) (S.faults sink.old) (S.faults sink.new)
+        ⊎ ((place : Place) × (fault : Fault) × Tells (faulty_line place fault) (S.bytes sink.old) (S.bytes sink.new) (S.faults sink.old) (S.faults sink.new))) }
     ensures memory_line { result.status ≡ 7 → Tells (codes "no memory") (S.bytes sink.old) (S.bytes sink.new) (S.faults sink.old) (S.faults sink.new) }
-    ensures accepted { result.status ≡ 0 ⊎ result.status ≡ 6 → IsAccepted (map string_bytes words.now.items) (F.contents files.old) }
+    ensures accepted { result.status ≡ 0 ⊎ result.status ≡ 6 → AreAccepted (map string_bytes words.now.items) (F.contents files.old) }
     ensures broken { result.status ≡ 6 → Rose (S.faults sink.old) (S.faults sink.new) }
     ensures served { (task : Task) → Asks (map string_bytes words.now.items) (F.contents files.old) task
         → (Rose (F.faults files.old) (F.faults files.new) → ⊥) → (Rose (S.faults sink.old) (S.faults sink.new) → ⊥) → (result.status ≡ 0) ⊎ (result.status ≡ 7) }

@@ -37,6 +37,24 @@ fn two_prints(rt: HostRuntime) -> Result<(), Fail> {
 }
 
 #[test]
+fn another_name_and_priority(rt: HostRuntime) -> Result<(), Fail> {
+    let program = "thread alpha_7 ( ) priority 07 { print \"x\" ; } // behind\nstart alpha_7();";
+    let left = left_by(rt.alloc(), &World::of("run p 1", program))?;
+    let report = "boot 1 start at 0 undone 0 replayed 0\n\
+        boot 1 thread 0 alpha_7:\n\
+        boot 1 end at 1\n\
+        events 1\n\
+        ticks 0\n\
+        thread 0 alpha_7 priority 7 ready\n\
+        list ready 7: 0\n\
+        console 2\n\
+        | x\n";
+    assert_eq!(rt; left.status, 0);
+    assert_eq!(rt; left.sink.bytes(), report.as_bytes());
+    Ok(())
+}
+
+#[test]
 fn cuts_in_formatting(rt: HostRuntime) -> Result<(), Fail> {
     let cases = [
         (" 0", 1, 2),

@@ -57,6 +57,56 @@ fn refusals(rt: HostRuntime) -> Result<(), Fail> {
 }
 
 #[test]
+fn refused_programs(rt: HostRuntime) -> Result<(), Fail> {
+    let cases: [(&[u8], &str); 12] = [
+        (
+            b"thread t() priority 1 { let a = 0; atomic { a = 1; } }",
+            "program 1:45 NotAllowedHere\n",
+        ),
+        (b"fn f() { ploop { } }", "program 1:10 NotAllowedHere\n"),
+        (
+            b"thread t() priority 1 { print x; }",
+            "program 1:31 UnknownName\n",
+        ),
+        (
+            b"thread t() priority 4294967296 { }",
+            "program 1:21 NumberTooLarge\n",
+        ),
+        (b"thread t() priority 8 { }", "program 1:21 OutOfRange 8\n"),
+        (
+            b"thread t() priority 9 { print x; }",
+            "program 1:21 OutOfRange 9\n",
+        ),
+        (b"thread t(", "program 1:10 Expected\n"),
+        (b"\xff", "program 1:1 BadToken\n"),
+        (
+            b"fn f(a, b, c, d, e, g, h, i, j) { }",
+            "program 1:30 TooMany parameters 9\n",
+        ),
+        (
+            b"type T { a }\n// a comment\nobject o: T;\nobject o: T;",
+            "program 4:8 TwiceNamed\n",
+        ),
+        (
+            b"fn f(a) { return a; } thread t() priority 1 { f(); }",
+            "program 1:47 WrongCount\n",
+        ),
+        (
+            b"fn f(a) { return a * 2; } thread t() priority 1 { let x = 0; x = f(4); print x; } start t();",
+            "program NotYet\n",
+        ),
+    ];
+    for (program, told) in cases {
+        let world = World {
+            program,
+            ..World::of("run p 2", "")
+        };
+        check_refusal(&rt, rt.alloc(), world, 4, told)?;
+    }
+    Ok(())
+}
+
+#[test]
 fn long_programs(rt: HostRuntime) -> Result<(), Fail> {
     for (spaces, told) in [(65_536, "program NotYet\n"), (65_537, "program TooLong\n")] {
         let program = " ".repeat(rt.alloc(), spaces)?;

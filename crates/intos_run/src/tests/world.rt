@@ -21,8 +21,8 @@ const ROOM: u32 = 65_536;
 pub struct World<'a> {
     /// The words, with a space between each two.
     pub line: &'a str,
-    /// The text of the file `p`.
-    pub program: &'a str,
+    /// The bytes of the file `p`.
+    pub program: &'a [u8],
     /// The readings that fail.
     pub failing_readings: &'a [u32],
     /// The puts that fail.
@@ -49,7 +49,7 @@ impl<'a> World<'a> {
     pub fn of(line: &'a str, program: &'a str) -> World<'a> {
         World {
             line,
-            program,
+            program: program.as_bytes(),
             failing_readings: &[],
             failing_puts: &[],
         }
@@ -65,11 +65,11 @@ fn words_of(alloc: Global, line: &str) -> Result<Vec<String>, AllocError> {
     Ok(words)
 }
 
-/// The file `p` with this text, where these readings fail.
-fn files_of(alloc: Global, text: &str, failing: &[u32]) -> Result<MemFiles, AllocError> {
+/// The file `p` with these bytes, where these readings fail.
+fn files_of(alloc: Global, bytes: &[u8], failing: &[u32]) -> Result<MemFiles, AllocError> {
     let name = String::from_str(alloc, "p")?;
     let mut files = Vec::new(alloc);
-    files.push(MemFile::new(name, text.as_bytes().to_vec(alloc)?))?;
+    files.push(MemFile::new(name, bytes.to_vec(alloc)?))?;
     Ok(MemFiles::new(files, failing.to_vec(alloc)?))
 }
 

@@ -1,11 +1,18 @@
-use Rattle.std.proofs.Common.{◌≡◌, ◌==◌, ◌++◌, ◌∷◌, [], true, false, ℕ, Bool, refl, sym, ◌∙◌, ap, subst}
+use Rattle.std.proofs.Common.{◌≡◌, ◌==◌, ◌++◌, ◌∷◌, [], true, false, ℕ, Bool, refl, sym, ◌∙◌, ap, subst, arith}
 use Rattle.outer_world.specs.Written.{put_to, IsPart}
 use Rattle.undo_journal.specs.Undo.{magic}
 use Rattle.intos_run.specs.Ends.{IsSpent, IsCut, IsFailed}
 use Rattle.intos_run.specs.Report.{is_formatted, dark_line}
-use Rattle.intos_run.proofs.BootLemmas.{MatchEnd-weaker, goes_dark-short, goes_dark-enough, done_since, cut_since, failed_since, cut_dark, failed_dark}
+use Rattle.intos_run.proofs.BootLemmas.{events_recovered, stands_recovered, MatchEnd-weaker, goes_dark-short, goes_dark-enough, done_since, cut_since, failed_since, cut_dark, failed_dark}
 use Rattle.intos_run.proofs.AtMostLaws.{IsAtMost-short}
 use Rattle.intos_run.proofs.boot.boot.Goals as goal
+
+pub live-requires-clause-stands : goal.live-requires-clause-stands
+live-requires-clause-stands g c = stands_recovered c.args.printer.now (g.N.Nv.words c.args.nv) _ c.in-Ok.ensures.shown c.requires.kept
+
+pub live-requires-clause-within : goal.live-requires-clause-within
+live-requires-clause-within g c =
+    omega (arith, events_recovered c.args.printer.now (g.N.Nv.words c.args.nv) _ c.in-Ok.ensures.shown, c.requires.within)
 
 pub returns-in-Ok-clause-ends : goal.returns-in-Ok-clause-ends
 returns-in-Ok-clause-ends g c =
@@ -20,7 +27,7 @@ returns-in-Ok-clause-ends g c =
 pub returns-in-Err-clause-ends : goal.returns-in-Err-clause-ends
 returns-in-Err-clause-ends g c =
     let lost = c.in-Err.ensures in
-    let prints = c.args.prints.now in
+    let printer = c.args.printer.now in
     let short = lost.dark.0 refl in
     let dark = goes_dark-short (g.N.Nv.left c.args.nv) (g.N.Nv.words c.args.nv) short in
     let old = g.S.Sink.bytes c.args.sink.now in
@@ -29,10 +36,10 @@ returns-in-Err-clause-ends g c =
     let spent : IsSpent g.N.Nv c.args.nv c.in-Err.lost = record { left = IsAtMost-short _ _ _ short lost.left; to_come = lost.to_come; ends = lost.ends } in
     MatchEnd-weaker c.dark.result
     (λ nv no. absurd no)
-    (λ nv cut. subst (IsCut g.N.Nv prints c.args.steps c.args.number c.args.nv old new) (sym cut.0)
-    (cut_dark g.N.Nv prints c.args.steps c.args.number c.args.nv c.in-Err.lost old new c.requires.kept c.requires.within dark lost.shown lost.recoverable lost.formatted spent
+    (λ nv cut. subst (IsCut g.N.Nv printer c.args.steps c.args.number c.args.nv old new) (sym cut.0)
+    (cut_dark g.N.Nv printer c.args.steps c.args.number c.args.nv c.in-Err.lost old new c.requires.kept c.requires.within dark lost.shown lost.recoverable lost.formatted spent
     lost.left (cut.2 ∙ ap (λ (b : Bool). put_to old (dark_line c.args.number b ++ 10 ∷ [])) formatted)))
-    (λ nv failed. subst (IsFailed g.N.Nv prints c.args.steps c.args.number c.args.nv old new) (sym failed.0)
-    (failed_dark g.N.Nv prints c.args.steps c.args.number c.args.nv c.in-Err.lost old new c.requires.kept c.requires.within dark lost.shown lost.recoverable lost.formatted spent
+    (λ nv failed. subst (IsFailed g.N.Nv printer c.args.steps c.args.number c.args.nv old new) (sym failed.0)
+    (failed_dark g.N.Nv printer c.args.steps c.args.number c.args.nv c.in-Err.lost old new c.requires.kept c.requires.within dark lost.shown lost.recoverable lost.formatted spent
     (subst (λ (b : Bool). IsPart old new (dark_line c.args.number b ++ 10 ∷ [])) formatted failed.1)))
     c.dark.ensures.ends

@@ -10,10 +10,10 @@ returns-then-word-eq-READY-clause-puts g c state old =
     let events = c.word-events.ensures.word ∙ read_events _ state old in
     let used = c.word-then-word-eq-READY.ensures.word ∙ read_used _ state old in
     let passed : c.word-then-word-eq-READY.result / 2 ≡ state.passed = omega (arith, used) in
-    Puts-same _ _ _ _ _ (begin_ready c.args.number c.args.undone _ _ state ready events passed) c.put_live.ensures.puts
+    Puts-same _ _ _ _ _ (begin_ready c.args.number c.args.undone _ _ c.args.printer.now.name _ state c.name.ensures.name ready events passed) c.put_live.ensures.puts
 
 pub returns-clause-puts : goal.returns-clause-puts
 returns-clause-puts g c state old =
     let ended = row_ended state.ended (λ ready. c.if-word-eq-READY.false (c.word.ensures.word ∙ read_row _ state old ∙ ready)) in
     let events = c.word-events.ensures.word ∙ read_events _ state old in
-    Puts-same _ _ _ _ _ (begin_ended c.args.number c.args.undone _ state ended events) c.put_start.ensures.puts
+    Puts-same _ _ _ _ _ (begin_ended c.args.number c.args.undone _ c.args.printer.now.name state ended events) c.put_start.ensures.puts

@@ -12,7 +12,7 @@ loop-events-init g c =
     let counted : c.word-events.result ≡ outside (g.N.Nv.words c.args.idle) 1 = c.word-events.ensures.word ∙ sym (outside-one (g.N.Nv.words c.args.idle)) in
     record {
       at_rest = c.requires.at_rest;
-      stands = c.requires.stands ∙ ap (λ (n : ℕ). stored (after c.args.prints.now n)) (sym counted);
+      stands = c.requires.stands ∙ ap (λ (n : ℕ). stored (after c.args.printer.now n)) (sym counted);
       later = omega (arith, counted);
       within = omega (arith, counted, c.requires.within);
       left = IsAtMost-same (g.N.Nv.left c.args.idle);
@@ -22,21 +22,21 @@ loop-events-init g c =
 
 pub event-requires-clause-stands : goal.event-requires-clause-stands
 event-requires-clause-stands g c =
-    let prints = c.args.prints.now in
+    let printer = c.args.printer.now in
     let events = c.loop-events.events in (
-      after prints events,
+      after printer events,
       c.loop-events.invariant.stands,
-      after-bounded prints events c.requires.strings.few c.requires.strings.strings,
-      omega (arith, after-events prints events, c.requires.few, c.loop-events-test.true),
+      after-bounded printer events c.requires.within_limits,
+      omega (arith, after-events printer events, c.requires.few, c.loop-events-test.true),
     )
 
 pub loop-events-preserved : goal.loop-events-preserved
 loop-events-preserved g c =
-    let prints = c.args.prints.now in
+    let printer = c.args.printer.now in
     let events = c.loop-events.events in
     record {
       at_rest = c.in-Ok.ensures.at_rest;
-      stands = c.in-Ok.ensures.happened (after prints events) c.loop-events.invariant.stands ∙ ap stored (sym (after-next prints events));
+      stands = c.in-Ok.ensures.happened (after printer events) c.loop-events.invariant.stands ∙ ap stored (sym (after-next printer events));
       later = omega arith;
       within = omega arith;
       left = IsAtMost-then _ _ _ c.loop-events.invariant.left (IsAtMost-FellWithin 6400 _ _ c.in-Ok.ensures.left);

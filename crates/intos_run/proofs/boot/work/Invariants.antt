@@ -8,7 +8,7 @@ use Rattle.intos_run.proofs.boot.work.Given as goal
 abbrev pub invariant-loop-events : goal.invariant-loop-events
 invariant-loop-events g l = record {
   at_rest : IsAtRest (g.N.Nv.words l.idle);
-  stands : outside (g.N.Nv.words l.idle) ≡ stored (after l.prints l.events);
+  stands : outside (g.N.Nv.words l.idle) ≡ stored (after l.printer l.events);
   later : outside (g.N.Nv.words l.initial.idle) 1 ≤ l.events;
   within : l.events ≤ l.steps;
   left : IsAtMost (g.N.Nv.left l.initial.idle) (g.N.Nv.left l.idle);

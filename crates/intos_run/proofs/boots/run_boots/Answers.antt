@@ -4,7 +4,7 @@ use Rattle.intos_run.proofs.boots.run_boots.Goals as goal
 
 pub boots-init : goal.boots-init
 boots-init g c = record {
-  stands = at_first g.N.Nv c.args.prints.now c.args.steps _ _ c.args.nv (g.S.Sink.bytes c.args.sink.now) c.requires.kept c.requires.within c.requires.no_ends refl refl c.requires.mains;
+  stands = at_first g.N.Nv c.args.printer.now c.args.steps _ _ c.args.nv (g.S.Sink.bytes c.args.sink.now) c.requires.kept c.requires.within c.requires.no_ends refl refl c.requires.mains;
   faults = refl;
   steps = omega arith;
 }

@@ -5,7 +5,7 @@ use Rattle.intos_run.proofs.boots.run_boots.Given as goal
 
 abbrev pub invariant-boots : goal.invariant-boots
 invariant-boots g l = record {
-  stands : IsAt g.N.Nv l.prints l.steps (budgets_of (g.N.Nv.left l.initial.nv) (g.N.Nv.to_come l.initial.nv)) (g.N.Nv.words l.initial.nv) (g.S.Sink.bytes l.initial.sink) (g.S.Sink.bytes l.sink) l.number l.nv;
+  stands : IsAt g.N.Nv l.printer l.steps (budgets_of (g.N.Nv.left l.initial.nv) (g.N.Nv.to_come l.initial.nv)) (g.N.Nv.words l.initial.nv) (g.S.Sink.bytes l.initial.sink) (g.S.Sink.bytes l.sink) l.number l.nv;
   faults : g.S.Sink.faults l.sink ≡ g.S.Sink.faults l.initial.sink;
   steps : l.counter ≤ l.initial.counter + recovered (g.N.Nv.words l.initial.nv) (g.N.Nv.ends l.nv);
 }

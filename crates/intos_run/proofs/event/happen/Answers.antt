@@ -12,7 +12,7 @@ overflow_add-events g c =
 pub returns-clause-happened : goal.returns-clause-happened
 unfolding one
 returns-clause-happened g c state old =
-    let next = stepped c.args.prints.now state state.ended in
+    let next = stepped c.args.printer.now state state.ended in
     let counted = ap (λ (n : ℕ). n + 1) (c.word-events.ensures.word ∙ read_events _ state old) in
     store_events next _ _ _ (c.in_ok-step.ensures.stepped state old) c.in_ok-put.ensures.written
     ∙ ap (λ (n : ℕ). stored (record next { events = n })) counted

@@ -13,8 +13,8 @@ pub returns-in_ok-record_print-in-Some-clause-acted : goal.returns-in_ok-record_
 returns-in_ok-record_print-in-Some-clause-acted g c state old =
     let used = c.word-used.ensures.word ∙ read_used _ state old in
     let at : c.word-used.result / 2 ≡ state.passed = omega (arith, used) in
-    let here : drop state.passed c.args.prints.now ≡ c.in-Some.string.now ∷ drop (c.word-used.result / 2 + 1) c.args.prints.now =
-    ap (λ (n : ℕ). drop n c.args.prints.now) (sym at) ∙ c.in-Some.ensures.found in
+    let here : drop state.passed c.args.printer.now.prints ≡ c.in-Some.string.now ∷ drop (c.word-used.result / 2 + 1) c.args.printer.now.prints =
+    ap (λ (n : ℕ). drop n c.args.printer.now.prints) (sym at) ∙ c.in-Some.ensures.found in
     let line = c.in-Some.string.now ++ 10 ∷ [] in
     let appended = c.in_ok-append-in-Some.ensures.appended state old ∙ ap (λ (string : List ℕ). stored (record state { console = state.console ++ (string ++ 10 ∷ []) })) c.bytes.ensures.same in
     c.in_ok-record_print-in-Some.ensures.recorded (record state { console = state.console ++ line }) used appended
@@ -24,5 +24,5 @@ pub returns-in_ok-end-in-None-clause-acted : goal.returns-in_ok-end-in-None-clau
 returns-in_ok-end-in-None-clause-acted g c state old =
     let used = c.word-used.ensures.word ∙ read_used _ state old in
     let at : c.word-used.result / 2 ≡ state.passed = omega (arith, used) in
-    let here : drop state.passed c.args.prints.now ≡ [] = ap (λ (n : ℕ). drop n c.args.prints.now) (sym at) ∙ c.in-None.ensures.behind in
+    let here : drop state.passed c.args.printer.now.prints ≡ [] = ap (λ (n : ℕ). drop n c.args.printer.now.prints) (sym at) ∙ c.in-None.ensures.behind in
     c.in_ok-end-in-None.ensures.ended state old ∙ ap (λ (rest : List (List ℕ)). stored (act state rest)) (sym here)

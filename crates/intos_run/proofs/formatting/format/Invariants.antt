@@ -7,7 +7,7 @@ use Rattle.intos_run.proofs.formatting.format.Given as goal
 abbrev pub invariant-loop-at : goal.invariant-loop-at
 invariant-loop-at g l = record {
   blank : slice_index (g.N.Nv.words l.nv) 0 ≡ 0;
-  initial : (a : ℕ) → 1 ≤ a → a < l.at → slice_index (g.N.Nv.words l.nv) a ≡ stored initial a;
+  initial : (a : ℕ) → 1 ≤ a → a < l.at → slice_index (g.N.Nv.words l.nv) a ≡ stored (initial l.printer) a;
   left : g.N.Nv.left l.nv ≡ spent (g.N.Nv.left l.initial.nv) (l.at - 1);
   to_come : g.N.Nv.to_come l.nv ≡ g.N.Nv.to_come l.initial.nv;
   ends : g.N.Nv.ends l.nv ≡ g.N.Nv.ends l.initial.nv;

@@ -15,31 +15,31 @@ begun status (inr six) seven = omega (arith, six, seven)
 pub returns-in-Ok-clause-budgets : goal.returns-in-Ok-clause-budgets
 returns-in-Ok-clause-budgets g c is task asks =
     let end = c.run_job.result in
-    for_task (λ prints steps cuts. HasBudgets cuts (g.N.Nv.ends end.nv) (g.N.Nv.left end.nv) (g.N.Nv.to_come end.nv)) _ _ _ task
+    for_task (λ printer steps cuts. HasBudgets cuts (g.N.Nv.ends end.nv) (g.N.Nv.left end.nv) (g.N.Nv.to_come end.nv)) _ _ _ task
     (same_task _ _ _ _ _ task c.in-Ok.ensures.job asks) (c.run_job.ensures.budgets (begun end.status is))
 
 pub returns-in-Ok-clause-images : goal.returns-in-Ok-clause-images
 returns-in-Ok-clause-images g c is task asks =
     let end = c.run_job.result in
-    for_task (λ prints steps cuts. HasImages prints steps cuts (g.N.Nv.words c.args.nv) (g.N.Nv.ends end.nv) (g.N.Nv.words end.nv)) _ _ _ task
+    for_task (λ printer steps cuts. HasImages printer steps cuts (g.N.Nv.words c.args.nv) (g.N.Nv.ends end.nv) (g.N.Nv.words end.nv)) _ _ _ task
     (same_task _ _ _ _ _ task c.in-Ok.ensures.job asks) (c.run_job.ensures.images (begun end.status is))
 
 pub returns-in-Ok-clause-complete : goal.returns-in-Ok-clause-complete
 returns-in-Ok-clause-complete g c is task asks =
     let end = c.run_job.result in
-    for_task (λ prints steps cuts. counter (g.N.Nv.words end.nv) ≡ steps) _ _ _ task
+    for_task (λ printer steps cuts. counter (g.N.Nv.words end.nv) ≡ steps) _ _ _ task
     (same_task _ _ _ _ _ task c.in-Ok.ensures.job asks) (c.run_job.ensures.complete is)
 
 pub returns-in-Ok-clause-text : goal.returns-in-Ok-clause-text
 returns-in-Ok-clause-text g c is task asks =
     let end = c.run_job.result in
-    for_task (λ prints steps cuts. g.S.Sink.bytes c.run_job.new.sink ≡ put_to (g.S.Sink.bytes c.args.sink.now) (report prints steps cuts (g.N.Nv.words c.args.nv) (g.N.Nv.ends end.nv) (g.N.Nv.words end.nv))) _ _ _ task
+    for_task (λ printer steps cuts. g.S.Sink.bytes c.run_job.new.sink ≡ put_to (g.S.Sink.bytes c.args.sink.now) (report printer steps cuts (g.N.Nv.words c.args.nv) (g.N.Nv.ends end.nv) (g.N.Nv.words end.nv))) _ _ _ task
     (same_task _ _ _ _ _ task c.in-Ok.ensures.job asks) (c.run_job.ensures.text is)
 
 pub returns-in-Ok-clause-text_so_far : goal.returns-in-Ok-clause-text_so_far
 returns-in-Ok-clause-text_so_far g c is task asks =
     let end = c.run_job.result in
-    for_task (λ prints steps cuts. IsPart (g.S.Sink.bytes c.args.sink.now) (g.S.Sink.bytes c.run_job.new.sink) (report prints steps cuts (g.N.Nv.words c.args.nv) (g.N.Nv.ends end.nv) (g.N.Nv.words end.nv))) _ _ _ task
+    for_task (λ printer steps cuts. IsPart (g.S.Sink.bytes c.args.sink.now) (g.S.Sink.bytes c.run_job.new.sink) (report printer steps cuts (g.N.Nv.words c.args.nv) (g.N.Nv.ends end.nv) (g.N.Nv.words end.nv))) _ _ _ task
     (same_task _ _ _ _ _ task c.in-Ok.ensures.job asks) (c.run_job.ensures.part is)
 
 pub returns-in-Err-clause-refused : goal.returns-in-Err-clause-refused
@@ -49,7 +49,7 @@ returns-in-Err-clause-refused g c is =
 pub returns-in-Ok-clause-accepted : goal.returns-in-Ok-clause-accepted
 returns-in-Ok-clause-accepted g c _ =
     let job = c.in-Ok.ensures.job in
-    (job.0, _, _, job.1, IfSome_then (g.F.Files.contents c.args.files.now job.0) job.2 (λ text program. (c.in-Ok.job.prints, program)))
+    (job.0, _, _, job.1, IfSome_then (g.F.Files.contents c.args.files.now job.0) job.2 (λ text program. (c.in-Ok.job.printer, program)))
 
 pub returns-in-Ok-clause-served : goal.returns-in-Ok-clause-served
 returns-in-Ok-clause-served g c task asks calm quiet = elim c.run_job.ensures.statuses [

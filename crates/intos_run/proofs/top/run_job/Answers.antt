@@ -15,29 +15,29 @@ run_boots-requires-clause-within g c = omega (arith, counter-blank _ (c.plan.ens
 
 pub dump-requires-clause-stands : goal.dump-requires-clause-stands
 dump-requires-clause-stands g c =
-    let prints = c.args.job.now.prints in
+    let printer = c.args.job.now.printer in
     let words = g.N.Nv.words c.in-Ok.done in
     let run = c.in-Ok.ensures.run in
-    (after prints (counter words), outside-kept prints words run.at_rest run.images.last.kept, after-bounded prints (counter words) c.requires.strings.few c.requires.strings.strings)
+    (after printer (counter words), outside-kept printer words run.at_rest run.images.last.kept, after-bounded printer (counter words) c.requires.within_limits)
 
 pub returns-in-Ok-dump-clause-text : goal.returns-in-Ok-dump-clause-text
 returns-in-Ok-dump-clause-text g c _ =
-    let prints = c.args.job.now.prints in
+    let printer = c.args.job.now.printer in
     let words = g.N.Nv.words c.in-Ok.done in
     let run = c.in-Ok.ensures.run in
     let fine : is_err c.plan.result ≡ false = sym c.is_err.ensures.value ∙ c.if-is_err.false in
     let planned = budgets-of_planned c.args.job.now.cuts.items _ _ (on_ok c.plan.result _ fine c.plan.ensures.left ∙ ap first_budget c.deref.ensures.value) (on_ok c.plan.result _ fine c.plan.ensures.to_come ∙ ap later_budgets c.deref.ensures.value) in
-    put_whole prints c.args.job.now.steps c.args.job.now.cuts.items _ (g.N.Nv.words c.args.nv) _ _ _ _ words _ _ _ planned c.plan.ensures.words
+    put_whole printer c.args.job.now.steps c.args.job.now.cuts.items _ (g.N.Nv.words c.args.nv) _ _ _ _ words _ _ _ planned c.plan.ensures.words
     c.in-Ok-dump.ensures.ends c.in-Ok-dump.ensures.words run.at_rest run.complete run.live run.text
-    (c.in-Ok-dump.ensures.puts (after prints (counter words)) (outside-kept prints words run.at_rest run.images.last.kept) (after-bounded prints (counter words) c.requires.strings.few c.requires.strings.strings))
+    (c.in-Ok-dump.ensures.puts (after printer (counter words)) (outside-kept printer words run.at_rest run.images.last.kept) (after-bounded printer (counter words) c.requires.within_limits))
 
 pub returns-in-Err-dump-clause-part : goal.returns-in-Err-dump-clause-part
 returns-in-Err-dump-clause-part g c _ =
-    let prints = c.args.job.now.prints in
+    let printer = c.args.job.now.printer in
     let words = g.N.Nv.words c.in-Ok.done in
     let run = c.in-Ok.ensures.run in
     let fine : is_err c.plan.result ≡ false = sym c.is_err.ensures.value ∙ c.if-is_err.false in
     let planned = budgets-of_planned c.args.job.now.cuts.items _ _ (on_ok c.plan.result _ fine c.plan.ensures.left ∙ ap first_budget c.deref.ensures.value) (on_ok c.plan.result _ fine c.plan.ensures.to_come ∙ ap later_budgets c.deref.ensures.value) in
-    part_whole prints c.args.job.now.steps c.args.job.now.cuts.items _ (g.N.Nv.words c.args.nv) _ _ _ _ words _ _ _ planned c.plan.ensures.words
+    part_whole printer c.args.job.now.steps c.args.job.now.cuts.items _ (g.N.Nv.words c.args.nv) _ _ _ _ words _ _ _ planned c.plan.ensures.words
     c.in-Err-dump.ensures.ends c.in-Err-dump.ensures.words run.at_rest run.complete run.live run.text
-    (c.in-Err-dump.ensures.puts (after prints (counter words)) (outside-kept prints words run.at_rest run.images.last.kept) (after-bounded prints (counter words) c.requires.strings.few c.requires.strings.strings))
+    (c.in-Err-dump.ensures.puts (after printer (counter words)) (outside-kept printer words run.at_rest run.images.last.kept) (after-bounded printer (counter words) c.requires.within_limits))
