@@ -58,6 +58,22 @@ NobodyReady = (box : Box (Unit {0}) Global) →
     ++ codes "ticks 0\n"
     ++ codes "console 0\n"
 
+-- one tick of a kernel without threads
+abbrev pub OneTick : Type 0
+OneTick = (box : Box (Unit {0}) Global) →
+    dump_after (nobody_ready_program box) (Tick ∷ [])
+    ≡ codes "events 1\n"
+    ++ codes "ticks 1\n"
+    ++ codes "console 0\n"
+
+-- no event at all
+abbrev pub NoEvent : Type 0
+NoEvent = (box : Box (Unit {0}) Global) →
+    dump_after (nobody_ready_program box) []
+    ≡ codes "events 0\n"
+    ++ codes "ticks 0\n"
+    ++ codes "console 0\n"
+
 -- the program
 --     type T { v }
 --     object o: T;

@@ -1,9 +1,11 @@
 // Runs that were worked out by hand: each clause says that the definition of the uncut run gives that text.
-ghost use Rattle.kernel_model.specs.WorkedRuns.{TwoPrints, NobodyReady, AbortAndGive, OneStoreTooMany, AsManyStoresAsAllowed, EndlessLoop, BothDelayed, UrgentFirst, TickBeforeSend, SendBeforeTick, PersistentLoop, NoRecordRoom, TurnsMakeRoom, RowUsedAgain, FullHeap, Sensor, Slices, GreatestCount, NoRowFree, Arithmetic, ConsoleNearlyFull, ConsoleFull, ConsoleStaysFull, AFunction, StaticStays, Priorities, Delays, Inputs, SendersWait, SendersServed, TakersWait, TakersTimeOut, OperationBeforeReference, BadReference, AsManyMovesAsAllowed, OneMoveTooMany, Moves, Places};
+ghost use Rattle.kernel_model.specs.WorkedRuns.{TwoPrints, NobodyReady, OneTick, NoEvent, AbortAndGive, OneStoreTooMany, AsManyStoresAsAllowed, EndlessLoop, BothDelayed, UrgentFirst, TickBeforeSend, SendBeforeTick, PersistentLoop, NoRecordRoom, TurnsMakeRoom, RowUsedAgain, FullHeap, Sensor, Slices, GreatestCount, NoRowFree, Arithmetic, ConsoleNearlyFull, ConsoleFull, ConsoleStaysFull, AFunction, StaticStays, Priorities, Delays, Inputs, SendersWait, SendersServed, TakersWait, TakersTimeOut, OperationBeforeReference, BadReference, AsManyMovesAsAllowed, OneMoveTooMany, Moves, Places};
 
 fn worked_by_hand()
     ensures two_prints { TwoPrints }
     ensures nobody_ready { NobodyReady }
+    ensures one_tick { OneTick }
+    ensures no_event { NoEvent }
     ensures abort_and_give { AbortAndGive }
     ensures one_store_too_many { OneStoreTooMany }
     ensures as_many_stores_as_allowed { AsManyStoresAsAllowed }

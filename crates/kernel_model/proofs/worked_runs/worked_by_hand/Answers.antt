@@ -23,6 +23,14 @@ pub returns-clause-nobody_ready : goal.returns-clause-nobody_ready
 unfolding digits by_urgency static_objects ahead_by block_by all_woken initial on visible out-Stmt out-TStmt out shown hidden shown-the_row-Stmt-0 shown-the_row-TStmt-0 events_line ticks_line row_line ready_line timed_line queue_line senders_line receivers_line semaphore_line takers_line object_line console_size_line console_line
 returns-clause-nobody_ready c = λ box. refl
 
+pub returns-clause-one_tick : goal.returns-clause-one_tick
+unfolding digits by_urgency static_objects ahead_by block_by all_woken initial on visible out-Stmt out-TStmt out shown hidden shown-the_row-Stmt-0 shown-the_row-TStmt-0 events_line ticks_line row_line ready_line timed_line queue_line senders_line receivers_line semaphore_line takers_line object_line console_size_line console_line
+returns-clause-one_tick c = λ box. refl
+
+pub returns-clause-no_event : goal.returns-clause-no_event
+unfolding digits by_urgency static_objects ahead_by block_by all_woken initial on visible out-Stmt out-TStmt out shown hidden shown-the_row-Stmt-0 shown-the_row-TStmt-0 events_line ticks_line row_line ready_line timed_line queue_line senders_line receivers_line semaphore_line takers_line object_line console_size_line console_line
+returns-clause-no_event c = λ box. refl
+
 pub returns-clause-abort_and_give : goal.returns-clause-abort_and_give
 unfolding digits by_urgency static_objects ahead_by block_by all_woken initial on visible out-Stmt out-TStmt out shown hidden shown-the_row-Stmt-0 shown-the_row-TStmt-0 events_line ticks_line row_line ready_line timed_line queue_line senders_line receivers_line semaphore_line takers_line object_line console_size_line console_line
 returns-clause-abort_and_give c = λ box. refl
