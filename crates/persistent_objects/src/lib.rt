@@ -1,0 +1,2 @@
+//! Fields of objects in the words.
+#![tactic(auto)]
