@@ -1,0 +1,4 @@
+pub mod LawSets
+pub mod KindLaws
+pub mod WordLaws
+pub mod RecordLaws
