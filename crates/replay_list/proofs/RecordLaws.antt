@@ -1,7 +1,7 @@
 -- Records one after another.
-use Rattle.std.proofs.Common.{◌≡◌, ℕ, zero, suc, ◌+◌, ◌-◌, ◌<◌, ◌≤◌, ◌++◌, List, [], ◌∷◌, refl, ap, sym, ◌∙◌, arith, length, take, drop, get_or, length-append, add-one}
+use Rattle.std.proofs.Common.{◌≡◌, ℕ, zero, suc, ◌+◌, ◌-◌, ◌<◌, ◌≤◌, ◌++◌, List, [], ◌∷◌, refl, ap, sym, ◌∙◌, arith, length, take, length-append}
 use Rattle.std.specs.Prelude.{slice_index}
-use Rattle.std.proofs.lemmas.List.{take_all, get_or-append-add, get_or-take, length-take}
+use Rattle.std.proofs.lemmas.List.{get_or-append-add, get_or-take, length-take}
 use Rattle.thread_tree.specs.Relive.{Record}
 use Rattle.kernel_image.specs.Decoded.{RowWords}
 use Rattle.replay_list.specs.Records.{encoded, recorded, results_of, AreFit}

@@ -1,4 +1,4 @@
-use Rattle.std.proofs.Common.{◌≡◌, ◌+◌, ◌≤◌, ◌<◌, arith, ◌∙◌, ap, length}
+use Rattle.std.proofs.Common.{arith, ap}
 use Rattle.kernel_image.specs.Cells.{present}
 use Rattle.kernel_image.specs.Decoded.{image_in, row_at}
 use Rattle.replay_list.specs.Records.{results_of}
