@@ -3,3 +3,8 @@ pub mod KindLaws
 pub mod WordLaws
 pub mod RecordLaws
 pub mod AppendLaws
+pub mod BothLaws
+pub mod ShownLaws
+pub mod LifeLaws
+pub mod KeptLaws
+pub mod CountLaws
