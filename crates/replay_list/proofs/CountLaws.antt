@@ -1,7 +1,7 @@
 -- The records that give a thread back are those of its actions, and it passed as many.
 use Rattle.std.proofs.Common.{◌≡◌, ℕ, ◌+◌, ◌-◌, ◌*◌, ◌<◌, ◌==◌, ◌/◌, ◌%◌, Bool, true, false, List, [], ◌∷◌, Option, Some, None, refl, ap, sym, subst, ◌∙◌, arith, length, if◌then◌else◌, eqb-true}
 use Rattle.std.specs.Prelude.{◌&&◌, slice_index, option_and_then, cond}
-use Rattle.std.proofs.lemmas.Bool.{cond-true, cond-false, cond_both, and_left, and_right}
+use Rattle.std.proofs.lemmas.Bool.{cond-true, cond-false, cond_both, false≢true}
 use Rattle.thread_tree.specs.declared.action.Call.{Call}
 use Rattle.thread_tree.specs.declared.action.Call.TheVariants as call
 use Rattle.thread_tree.specs.declared.block.Stmt.{Stmt, out-Stmt}
@@ -18,6 +18,11 @@ use Rattle.kernel_model.specs.Relived.{is_open, life_of}
 use Rattle.kernel_image.specs.Decoded.{RowWords}
 use Rattle.replay_list.specs.Records.{encoded, recorded, results_of, start_in, IsFit, AreFit}
 use Rattle.replay_list.specs.Stands.{IsLife}
+
+-- two tests that both pass
+both-true : (a b : Bool) → (a && b) ≡ true → (a ≡ true) × (b ≡ true)
+both-true true b e = (refl, e)
+both-true false b e = absurd (false≢true e)
 
 -- kinds are small
 call-few : (c : Call) → kind_of_call c < 256
@@ -81,8 +86,9 @@ module _ (p : Program) where
 
   by_records : (r : Record) (life later : Life) (s : Stmt) (action : Action) (next : Life) → action_of s ≡ Some action → (b : Bool) → records action r ≡ b → next.passed ≡ life.passed + 1 → (if b then Some next else None) ≡ Some later → IsPassed r life later
   by_records r life later s action next is true fits one e =
-      let kind : kind_word action.kind action.given ≡ r.kind = eqb-true _ _ (and_left _ _ fits) in
-      let many : result_count action.kind action.given ≡ length r.results = eqb-true _ _ (and_right _ _ fits) in
+      let tests = both-true (kind_word action.kind action.given == r.kind) (result_count action.kind action.given == length r.results) fits in
+      let kind : kind_word action.kind action.given ≡ r.kind = eqb-true _ _ tests.0 in
+      let many : result_count action.kind action.given ≡ length r.results = eqb-true _ _ tests.1 in
       record {
         fit = ap results_of (sym kind) ∙ results_of-kind_word action.kind action.given (kind-few s action is) ∙ many;
         one = sym (ap passed_in e) ∙ one;

@@ -8,3 +8,5 @@ pub mod ShownLaws
 pub mod LifeLaws
 pub mod KeptLaws
 pub mod CountLaws
+pub mod RowLaws
+pub mod Callers

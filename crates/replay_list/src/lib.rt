@@ -3,12 +3,14 @@
 
 mod appending;
 mod kernel;
+mod laws;
 mod outcome;
 mod reading;
 mod record;
 
 pub use appending::{append, clear};
 pub use kernel::Kernel;
+pub use laws::standing_laws;
 pub use outcome::Outcome;
 pub use reading::{record_at, record_count, words_used};
 pub use record::Record;
