@@ -2,6 +2,7 @@
 #![tactic(auto)]
 
 mod appending;
+mod finishing;
 mod kernel;
 mod laws;
 mod outcome;
@@ -9,6 +10,7 @@ mod reading;
 mod record;
 
 pub use appending::{append, clear};
+pub use finishing::finish;
 pub use kernel::Kernel;
 pub use laws::standing_laws;
 pub use outcome::Outcome;
