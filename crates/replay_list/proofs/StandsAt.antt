@@ -1,11 +1,12 @@
 -- The statement at which a context stands.
-use Rattle.std.proofs.Common.{◌≡◌, ℕ, zero, suc, ◌+◌, List, [], ◌∷◌, ◌++◌, Bool, true, false, Option, Some, None, refl, ap, sym, ◌∙◌, arith, drop, add-one}
+use Rattle.std.proofs.Common.{◌≡◌, ℕ, zero, suc, ◌+◌, List, [], ◌∷◌, ◌++◌, Bool, true, false, Option, Some, None, refl, ap, sym, ◌∙◌, arith, ◌<◌, length, subst, drop}
 use Rattle.std.specs.Prelude.{map, slice_get, IsSomeAnd}
 use Rattle.std.specs.List.{fold}
 use Rattle.thread_tree.specs.declared.block.Block.{Block}
 use Rattle.thread_tree.specs.declared.block.Stmt.{Stmt, out-Stmt}
 use Rattle.thread_tree.specs.declared.block.Stmt.TheOpen.{Stmt-F}
 use Rattle.thread_tree.specs.declared.block.Stmt.TheOpen as stmt
+use Rattle.thread_tree.specs.Actions.{actions}
 use Rattle.thread_tree.specs.Kinds.{Action, action_layer, action_of}
 use Rattle.thread_tree.specs.LocalState.{Thing, next_action, next_statement}
 use Rattle.thread_tree.specs.LocalState.Thing.{Do}
@@ -112,4 +113,30 @@ pub number_asks : (p : Program) (ctx : Ctx) (a : Action) → next_action (local_
 number_asks p ctx a e =
     let at = stands_at p ctx a e in
     let stays = layer-stays (out-Stmt at.statement) a at.is in
-    rw (at.here) ?
+    rw (at.here) stays
+
+-- what is some
+pub some_and : {X : Type 0} (P : X → Type 0) (o : Option X) → IsSomeAnd o P → (x : X) × (o ≡ Some x) × P x
+some_and P None h = absurd h
+some_and P (Some x) h = (x, refl, h)
+
+-- a place where something is lies within a list
+pub get_within : {X : Type 0} (xs : List X) (n : ℕ) (x : X) → slice_get xs n ≡ Some x → n < length xs
+get_within {X} [] n x e = absurd (let f : ◌≡◌ {A = Option X} None (Some x) = e in cc)
+get_within (y ∷ xs) zero x e = omega arith
+get_within (y ∷ xs) (suc n) x e = let rest = get_within xs n x e in omega (arith, rest)
+
+-- the action of a number is the one at which the context stands
+pub numbered : (p q : Program) (ctx : Ctx) (a : Action) (n : ℕ) → q ≡ p → next_action (local_of p ctx) ≡ Some a → slice_get (actions q) n ≡ statement_of q ctx → n < length (actions p)
+numbered p q ctx a n same e found =
+    let at = stands_at p ctx a e in
+    let at_p : slice_get (actions p) n ≡ statement_of p ctx = subst (λ (x : Program). slice_get (actions x) n ≡ statement_of x ctx) same found in
+    get_within (actions p) n at.statement (at_p ∙ at.here)
+
+pub action_found : (p q : Program) (ctx : Ctx) (a : Action) (n : ℕ) (s : Stmt) → q ≡ p → next_action (local_of p ctx) ≡ Some a → slice_get (actions q) n ≡ statement_of q ctx → slice_get (actions p) n ≡ Some s → action_of s ≡ Some a
+action_found p q ctx a n s same e found is =
+    let at = stands_at p ctx a e in
+    let at_p : slice_get (actions p) n ≡ statement_of p ctx = subst (λ (x : Program). slice_get (actions x) n ≡ statement_of x ctx) same found in
+    let both : ◌≡◌ {A = Option Stmt} (Some s) (Some at.statement) = sym is ∙ at_p ∙ at.here in
+    let one : s ≡ at.statement = cc in
+    ap action_of one ∙ at.is
