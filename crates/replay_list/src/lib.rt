@@ -16,3 +16,6 @@ pub use laws::standing_laws;
 pub use outcome::Outcome;
 pub use reading::{record_at, record_count, words_used};
 pub use record::Record;
+
+#[cfg(test)]
+mod tests;
