@@ -72,7 +72,11 @@ pub fn record_at<W: Words>(words: &W, thread: u32, from: u32) -> Record
     let kind = record_word(words, thread, from);
     let count = result_count(kind);
     let results = results_at(words, thread, from + 1, count);
-    Record { kind, results, after: from + 1 + count }
+    Record {
+        kind,
+        results,
+        after: from + 1 + count,
+    }
 }
 
 /// How many records a thread has. Its words are records of the kinds that they begin with.
