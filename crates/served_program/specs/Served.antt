@@ -20,7 +20,7 @@ use Rattle.thread_tree.specs.declared.transaction.TStmt.TheOpen as tstmt
 use Rattle.thread_tree.specs.declared.tree.Decl.{Decl}
 use Rattle.thread_tree.specs.declared.tree.Decl.TheVariants as decl
 use Rattle.thread_tree.specs.declared.tree.Tree.{Tree}
-use Rattle.thread_tree.specs.Program.{program_of}
+use Rattle.thread_tree.specs.Program.{no_program, declared, program_of}
 
 -- a field: of a static object, and none through a type
 abbrev pub is_served_field : FieldOf → Bool
@@ -142,6 +142,10 @@ is_served_decl (decl.Semaphore name count maximum) = false
 is_served_decl (decl.Function name parameters body) = is_served_block body
 is_served_decl (decl.Thread name parameters priority body) = length parameters == 0 && is_served_block body
 is_served_decl (decl.Start place name arguments) = true
+
+-- how many threads a declaration starts
+abbrev pub starts_in : Decl → ℕ
+starts_in d = length (declared d no_program).starts
 
 -- a program: at most one thread is started
 unfoldable pub is_served : Tree → Bool

@@ -5,5 +5,11 @@
 #![tactic(auto)]
 
 mod expressions;
+mod laws;
+mod program;
+mod statements;
 mod transactions;
+
+pub use laws::served_laws;
+pub use program::is_served;
 
