@@ -1,5 +1,5 @@
 -- A thread of a served program arrives at served actions.
-use Rattle.std.proofs.Common.{◌≡◌, ℕ, ◌+◌, zero, suc, Bool, true, false, ◌==◌, List, [], ◌∷◌, length, Option, Some, None, MatchOption, slice_get, option_and_then, refl, sym, ap, subst, ◌∙◌}
+use Rattle.std.proofs.Common.{◌≡◌, ℕ, ◌+◌, zero, suc, Bool, ◌==◌, List, [], ◌∷◌, length, Option, Some, None, MatchOption, slice_get, option_and_then, refl, sym, subst, ◌∙◌}
 use Rattle.std.specs.Prelude.{IsTrue, ⊤}
 use Rattle.std.specs.List.{AllByRecursion}
 use Rattle.std.proofs.lemmas.Bool.{cond_both, false≢true}
@@ -11,7 +11,7 @@ use Rattle.thread_tree.specs.Program.{Program, Template, program_of}
 use Rattle.thread_tree.specs.Kinds.{Action, action_of}
 use Rattle.thread_tree.specs.LocalState.{Thing, LocalState, moved_by, moved, move, next_statement, bind, birth}
 use Rattle.thread_tree.specs.LocalState.Thing.{Do, End, Test, Turn}
-use Rattle.thread_tree.specs.Ahead.{Ahead, Arrival, arrival_of, stops, goes_on, ahead_by, ahead}
+use Rattle.thread_tree.specs.Ahead.{Ahead, Arrival, stops, goes_on, ahead_by, ahead}
 use Rattle.thread_tree.specs.Ahead.Arrival.{AtAction, Finished, Watchdog}
 use Rattle.thread_tree.specs.Actions.{Spot, loops, inside}
 use Rattle.thread_tree.specs.Relive.{Start, Record, Life, where_as_many, started, records, passed_by, passed, relived, opened, begun, relive}
@@ -21,7 +21,7 @@ use Rattle.kernel_model.specs.Relived.{is_open, IsRelived}
 use Rattle.served_program.specs.Served.{is_served_layer, is_served_block, is_served_action, is_served}
 use Rattle.served_program.proofs.ServedLaws.{is_served_stmt_out}
 use Rattle.served_program.proofs.DeclarationLaws.{IsServedTemplate, IsServedFunction, Declares, served_declares, served_no_loops}
-use Rattle.served_program.proofs.MoveLaws.{IsServedThing, AreServedThings, IsServedState, things_served, move_served, bind_served}
+use Rattle.served_program.proofs.MoveLaws.{AreServedThings, IsServedState, things_served, move_served, bind_served}
 
 -- an arrival at an action is one at a served action
 abbrev Arrives : Arrival → Type 0

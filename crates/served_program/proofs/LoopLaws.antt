@@ -1,16 +1,16 @@
 -- A served body has no persistent loop.
-use Rattle.std.proofs.Common.{◌≡◌, ℕ, Bool, true, false, cond, ◌&&◌, List, [], ◌∷◌, ◌++◌, length, map, filter, Some, None, is_some, refl, sym, ap, subst, ◌∙◌}
-use Rattle.std.specs.Prelude.{IsTrue, ⊤}
+use Rattle.std.proofs.Common.{◌≡◌, ℕ, true, false, ◌&&◌, List, [], ◌∷◌, ◌++◌, length, map, filter, Some, None, is_some, refl, sym, ap, subst, ◌∙◌}
+use Rattle.std.specs.Prelude.{IsTrue}
 use Rattle.std.specs.List.{AllByRecursion, list_all, flat_map}
 use Rattle.std.proofs.lemmas.Bool.{and_parts, cond-false, false≢true}
-use Rattle.thread_tree.specs.declared.block.Block.{Block, Block-F, para-roll-Block, roll-Block, map-Block, out-Block, out-roll-Block}
+use Rattle.thread_tree.specs.declared.block.Block.{Block, Block-F, para-roll-Block, roll-Block, map-Block, out-roll-Block}
 use Rattle.thread_tree.specs.declared.block.Stmt.{Stmt, Stmt-F, para-roll-Stmt, para-Stmt, roll-Stmt, map-Stmt, out-Stmt, out-roll-Stmt}
 use Rattle.thread_tree.specs.declared.block.Stmt.TheOpen as stmt
 use Rattle.thread_tree.specs.Program.{Program, Body}
 use Rattle.thread_tree.specs.LocalState.{Thing, loop_block}
-use Rattle.thread_tree.specs.LocalState.Thing.{Do, End, Test, Turn}
+use Rattle.thread_tree.specs.LocalState.Thing.{Do, End, Test}
 use Rattle.thread_tree.specs.Actions.{Spot, SpotsOf, SpotsIn, spots_in, spots_of_layer, spots_in_turn, spots_in_layer, declared_by, is_loop, spots, loops}
-use Rattle.served_program.specs.Served.{has_no_field, if_some, is_served_layer, is_served_stmt, is_served_block}
+use Rattle.served_program.specs.Served.{has_no_field, is_served_layer, is_served_stmt, is_served_block}
 use Rattle.served_program.proofs.ServedLaws.{is_served_stmt_out, is_served_block_out}
 use Rattle.served_program.proofs.Induction.{each_block}
 

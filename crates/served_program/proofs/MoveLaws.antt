@@ -1,5 +1,5 @@
 -- What is still to do in a served program is served, after each move and after each action.
-use Rattle.std.proofs.Common.{◌≡◌, ℕ, Bool, true, false, cond, ◌&&◌, ◌==◌, List, [], ◌∷◌, ◌++◌, length, map, take, find, Option, Some, None, MatchOption, refl, sym, ap, ◌∙◌}
+use Rattle.std.proofs.Common.{ℕ, ◌&&◌, ◌==◌, List, [], ◌∷◌, length, map, take, find, Option, Some, None, MatchOption, sym, ◌∙◌}
 use Rattle.std.specs.Prelude.{IsTrue, ⊤}
 use Rattle.std.specs.List.{AllByRecursion, list_all}
 use Rattle.std.proofs.lemmas.Bool.{and_parts, cond_both}

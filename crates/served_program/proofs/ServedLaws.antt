@@ -1,5 +1,5 @@
 -- What is served, by layers.
-use Rattle.std.proofs.Common.{◌≡◌, Bool, refl, ap, ◌∙◌, Some, None}
+use Rattle.std.proofs.Common.{◌≡◌, Bool, refl, ◌∙◌, Some, None}
 use Rattle.std.specs.List.{list_all}
 use Rattle.std.proofs.lemmas.List.Folds.{list_all-map}
 use Rattle.thread_tree.specs.declared.block.Block.{Block, out-Block, fold_out-Block}
