@@ -1,6 +1,8 @@
 -- What is served, by layers.
-use Rattle.std.proofs.Common.{◌≡◌, Bool, refl, ◌∙◌, Some, None}
-use Rattle.std.specs.List.{list_all}
+use Rattle.std.proofs.Common.{◌≡◌, ℕ, zero, suc, Bool, List, [], ◌∷◌, refl, sym, ap, subst, ◌∙◌, Some, None}
+use Rattle.std.specs.Prelude.{IsTrue}
+use Rattle.std.specs.List.{list_all, slice_get}
+use Rattle.std.proofs.lemmas.Bool.{and_parts}
 use Rattle.std.proofs.lemmas.List.Folds.{list_all-map}
 use Rattle.thread_tree.specs.declared.block.Block.{Block, out-Block, fold_out-Block}
 use Rattle.thread_tree.specs.declared.block.Stmt.{Stmt, out-Stmt, fold_out-Stmt, map-Stmt}
@@ -66,3 +68,25 @@ pub is_served_stmt_out : (s : Stmt) → is_served_stmt s ≡ is_served_layer is_
 unfolding is_served_block is_served_stmt
 is_served_stmt_out s =
     fold_out-Stmt Bool Bool (is_served_layer (λ served. served)) is_served_block_layer s ∙ layer_read (out-Stmt s)
+
+-- what stands at a place of a list that passes a test
+pub passes_at : {X : Type 0} (test : X → Bool) (xs : List X) (i : ℕ) (x : X) → IsTrue (list_all test xs) → slice_get xs i ≡ Some x → IsTrue (test x)
+passes_at test [] i x all there = cc
+passes_at test (y ∷ xs) zero x all there = let same : y ≡ x = cc in subst (λ z. IsTrue (test z)) same (and_parts (test y) (list_all test xs) all).0
+passes_at test (y ∷ xs) (suc i) x all there = passes_at test xs i x (and_parts (test y) (list_all test xs) all).1 there
+
+-- the statements of a served block of a transaction
+pub tstmts_served : (b : TBlock) → IsTrue (is_served_tblock b) → IsTrue (list_all is_served_tstmt (out-TBlock b).stmts)
+tstmts_served b served = sym (is_served_tblock_out b) ∙ served
+
+-- the statement at a place of served statements of a transaction
+pub tstmt_served_at : (stmts : List TStmt) (i : ℕ) (s : TStmt) → IsTrue (list_all is_served_tstmt stmts) → slice_get stmts i ≡ Some s → IsTrue (is_served_tlayer is_served_tblock (out-TStmt s))
+tstmt_served_at stmts i s all there = sym (is_served_tstmt_out s) ∙ passes_at is_served_tstmt stmts i s all there
+
+-- the statements of a served block of a body
+pub stmts_served : (b : Block) → IsTrue (is_served_block b) → IsTrue (list_all is_served_stmt (out-Block b).stmts)
+stmts_served b served = sym (is_served_block_out b) ∙ served
+
+-- the statement at a place of served statements of a body
+pub stmt_served_at : (stmts : List Stmt) (i : ℕ) (s : Stmt) → IsTrue (list_all is_served_stmt stmts) → slice_get stmts i ≡ Some s → IsTrue (is_served_layer is_served_block (out-Stmt s))
+stmt_served_at stmts i s all there = sym (is_served_stmt_out s) ∙ passes_at is_served_stmt stmts i s all there
