@@ -1,0 +1,13 @@
+pub mod TreeLaws
+pub mod SameBare
+pub mod Choices
+pub mod MoveLaws
+pub mod AheadLaws
+pub mod BlockLaws
+pub mod OrderLaws
+pub mod RowLaws
+pub mod CallLaws
+pub mod ActLaws
+pub mod RunLaws
+pub mod SpotLaws
+pub mod ReliveLaws
