@@ -11,3 +11,7 @@ pub mod ActLaws
 pub mod RunLaws
 pub mod SpotLaws
 pub mod ReliveLaws
+pub mod ProgramLaws
+pub mod ShownLaws
+pub mod AlikeLaws
+pub mod WorkedLaws

@@ -146,7 +146,7 @@ tick_bare K =
     ∙ rotated_bare (all_woken (record K { ticks = K.ticks + 1 })) (chosen K)
 
 -- one event
-one_bare : (p : Program) (K : State) (event : Event) → one (bare_program p) (bare_state K) event ≡ bare_state (one p K event)
+pub one_bare : (p : Program) (K : State) (event : Event) → one (bare_program p) (bare_state K) event ≡ bare_state (one p K event)
 one_bare p K Step = step_bare p (counted K)
 one_bare p K Tick = tick_bare (counted K)
 one_bare p K (Input channel value) = input_bare p (counted K) channel value
@@ -171,7 +171,7 @@ free_bare zero = refl
 free_bare (suc n) = ap (λ xs. Free ∷ xs) (free_bare n)
 
 -- the kernel at the start
-initial_bare : (p : Program) → initial (bare_program p) ≡ bare_state (initial p)
+pub initial_bare : (p : Program) → initial (bare_program p) ≡ bare_state (initial p)
 unfolding initial
 initial_bare p =
     let rows : start_rows (bare_program p) ++ replicate (row_count - length p.starts) Free ≡ map bare_row (start_rows p ++ replicate (row_count - length p.starts) Free) =

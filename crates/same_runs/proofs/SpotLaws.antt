@@ -126,7 +126,7 @@ spots_in_bare b = ind-Block OfStatement OfBlock
     (λ x y is. subst (λ z. OfBlock (roll-Block z)) is (of_block _ _ (λ e. e.0) (λ e. e.0) (λ e. e.1) (λ e. e.1) y)) b
 
 -- the actions of a program where they stand
-spots_bare : (p : Program) → spots (bare_program p) ≡ map bare_spot (spots p)
+pub spots_bare : (p : Program) → spots (bare_program p) ≡ map bare_spot (spots p)
 spots_bare p = flat_map_bare bare_body bare_spot (λ (body : Body). spots_in body.block body.parameters []) (λ body. spots_in_bare body.block body.parameters []) p.bodies
 
 -- its persistent loops

@@ -17,6 +17,9 @@ use Rattle.thread_tree.specs.declared.transaction.TBlock.{TBlock, fold-TBlock, r
 use Rattle.thread_tree.specs.declared.transaction.TStmt.{TStmt, fold-TStmt, roll-TStmt, map-TStmt}
 use Rattle.thread_tree.specs.declared.transaction.TStmt.TheOpen.{TStmt-F, TBlock-F}
 use Rattle.thread_tree.specs.declared.transaction.TStmt.TheOpen as tstmt
+use Rattle.thread_tree.specs.declared.tree.Decl.{Decl}
+use Rattle.thread_tree.specs.declared.tree.Decl.TheVariants as decl
+use Rattle.thread_tree.specs.declared.tree.Tree.{Tree}
 use Rattle.thread_tree.specs.Program.{Program, Function, Template, Body}
 
 -- an expression
@@ -116,3 +119,17 @@ bare_program p = record p {
   templates = map bare_template p.templates;
   bodies = map bare_body p.bodies;
 }
+
+-- a declaration
+abbrev pub bare_decl : Decl → Decl
+bare_decl (decl.Kind name fields) = decl.Kind name fields
+bare_decl (decl.Object name kind) = decl.Object name kind
+bare_decl (decl.Queue name capacity channel) = decl.Queue name capacity channel
+bare_decl (decl.Semaphore name count maximum) = decl.Semaphore name count maximum
+bare_decl (decl.Function name parameters body) = decl.Function name parameters (bare_block body)
+bare_decl (decl.Thread name parameters priority body) = decl.Thread name parameters priority (bare_block body)
+bare_decl (decl.Start place name arguments) = decl.Start place name arguments
+
+-- a tree
+abbrev pub bare_tree : Tree → Tree
+bare_tree t = record { names = t.names; decls = map bare_decl t.decls }

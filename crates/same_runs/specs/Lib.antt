@@ -1,3 +1,4 @@
 pub mod Same
 pub mod Bare
 pub mod BareStates
+pub mod Alike

@@ -1,7 +1,10 @@
-//! A text has one program up to the pointers of boxes, and two such programs run alike.
+//! A text has one program up to the pointers of boxes (`accepted_program`), and two such programs
+//! run alike: what can be seen of their kernels is the same after the same events, and a thread
+//! is relived alike in both.
 #![tactic(auto)]
 
-ghost use Rattle.std.specs.Prelude.{◌≡◌};
+mod laws;
+mod worked;
 
-pub fn bare()
-{}
+pub use laws::{lives_alike, moves_alike, programs_alike, runs_alike};
+pub use worked::worked_rows;
