@@ -1,9 +1,9 @@
 -- What an action does doesn't depend on the pointers of boxes.
-use Rattle.std.proofs.Common.{◌≡◌, ℕ, ◌+◌, ◌-◌, ◌==◌, Bool, false, cond, List, [], ◌∷◌, ◌++◌, length, map, Option, Some, None, option_map, refl, sym, ap, ap₂, ◌∙◌}
+use Rattle.std.proofs.Common.{◌≡◌, ℕ, ◌-◌, ◌==◌, cond, List, [], ◌∷◌, ◌++◌, length, map, refl, ap, ap₂, ◌∙◌}
 use Rattle.std.specs.Prelude.{decimal, flat_map}
 use Rattle.kernel_model.specs.Kernel.{State}
 use Rattle.kernel_model.specs.Numbers.{template_number, queue_number, semaphore_number}
-use Rattle.kernel_model.specs.Serve.{Effect, words_of}
+use Rattle.kernel_model.specs.Serve.{words_of}
 use Rattle.kernel_model.specs.Calls.{print, spawn, delete, delay, setprio, getprio, send, receive, take}
 use Rattle.kernel_model.specs.Transactions.{BlockEnd, block}
 use Rattle.kernel_model.specs.Transactions.BlockEnd.{Gave, Aborted, Fault}
@@ -22,7 +22,7 @@ use Rattle.thread_tree.specs.declared.block.Stmt.TheOpen as stmt
 use Rattle.thread_tree.specs.Program.{Program}
 use Rattle.thread_tree.specs.Value.{value_of, values_in}
 use Rattle.thread_tree.specs.Kinds.{action_of}
-use Rattle.same_runs.specs.Bare.{bare_expr, bare_item, bare_who, bare_call, bare_tblock, bare_stmt, bare_program}
+use Rattle.same_runs.specs.Bare.{bare_item, bare_who, bare_call, bare_stmt, bare_program}
 use Rattle.same_runs.specs.BareStates.{bare_state, bare_effect}
 use Rattle.same_runs.proofs.TreeLaws.{stmt_layer, stmt_out}
 use Rattle.same_runs.proofs.MoveLaws.{value_bare, values_bare, action_bare}

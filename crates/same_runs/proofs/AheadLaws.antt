@@ -1,10 +1,10 @@
 -- Running ahead doesn't see the pointers of boxes.
-use Rattle.std.proofs.Common.{◌≡◌, ℕ, zero, suc, ◌+◌, List, [], ◌∷◌, map, Option, Some, None, option_map, refl, sym, ap, ap₂, ◌∙◌}
+use Rattle.std.proofs.Common.{◌≡◌, ℕ, zero, suc, ◌+◌, Option, Some, None, option_map, refl, ap, ◌∙◌}
 use Rattle.thread_tree.specs.declared.block.Stmt.{Stmt}
 use Rattle.thread_tree.specs.Program.{Program}
 use Rattle.thread_tree.specs.LocalState.{LocalState, move, next_statement}
 use Rattle.thread_tree.specs.Ahead.{Arrival, Ahead, arrival_of, stays, stops, goes_on, ahead_by, most_moves, ahead}
-use Rattle.thread_tree.specs.Ahead.Arrival.{AtAction, Finished, Watchdog}
+use Rattle.thread_tree.specs.Ahead.Arrival.{AtAction, Finished}
 use Rattle.same_runs.specs.Bare.{bare_stmt, bare_program}
 use Rattle.same_runs.specs.BareStates.{bare_local, bare_arrival, bare_ahead}
 use Rattle.same_runs.proofs.MoveLaws.{move_bare, next_statement_bare}

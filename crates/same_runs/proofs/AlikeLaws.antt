@@ -1,22 +1,20 @@
 -- The runs of two trees of one text are alike.
-use Rattle.std.proofs.Common.{◌≡◌, ℕ, zero, suc, Bool, List, [], ◌∷◌, map, get_or, Option, Some, None, option_map, sum_by, refl, sym, ap, subst, ◌∙◌}
+use Rattle.std.proofs.Common.{◌≡◌, ℕ, zero, suc, Bool, List, [], ◌∷◌, map, get_or, Option, Some, None, option_map, refl, sym, ap, subst, ◌∙◌}
 use Rattle.kernel_model.specs.declared.event.Event.{Event}
-use Rattle.kernel_model.specs.Kernel.{Activity, Thread, Row, State, live_in, row_of, thread_of}
+use Rattle.kernel_model.specs.Kernel.{Thread, Row, State, live_in, row_of, thread_of}
 use Rattle.kernel_model.specs.Kernel.Row.{Free, Ended, Live}
-use Rattle.kernel_model.specs.Names.{Names}
-use Rattle.kernel_model.specs.Visible.{Visible}
 use Rattle.kernel_model.specs.Run.{after}
 use Rattle.kernel_model.specs.Show.{visible, names_of}
-use Rattle.kernel_model.specs.Relived.{is_open, life_of, words_in, IsRelived}
+use Rattle.kernel_model.specs.Relived.{is_open, life_of, IsRelived}
 use Rattle.thread_tree.specs.declared.tree.Tree.{Tree}
 use Rattle.thread_tree.specs.Program.{Program, program_of}
 use Rattle.thread_tree.specs.LocalState.{LocalState, locals_of}
 use Rattle.thread_tree.specs.Relive.{Start, Record, Life, relive}
 use Rattle.same_runs.specs.Same.{EachSame, both_empty, both_more, SameDecls}
-use Rattle.same_runs.specs.Bare.{bare_program, bare_tree}
+use Rattle.same_runs.specs.Bare.{bare_tree}
 use Rattle.same_runs.specs.BareStates.{bare_local, bare_thread, bare_row, bare_state, bare_life}
 use Rattle.same_runs.specs.Alike.{SameLocal, SameThread, SameRow, both_free, both_ended, both_live, SameKernel, SameLife, SameLives, IsRelivedAlike}
-use Rattle.same_runs.proofs.ProgramLaws.{program_bare, same_tree, same_program}
+use Rattle.same_runs.proofs.ProgramLaws.{program_bare, same_program}
 use Rattle.same_runs.proofs.RunLaws.{after_bare}
 use Rattle.same_runs.proofs.ReliveLaws.{relive_bare}
 use Rattle.same_runs.proofs.ShownLaws.{visible_bare, visible_any, names_bare, locals_bare}

@@ -16,9 +16,8 @@ use Rattle.thread_tree.specs.LocalState.{chosen_by}
 use Rattle.kernel_model.specs.Visible.{Object}
 use Rattle.kernel_model.specs.Numbers.{kind_number, object_number, field_number}
 use Rattle.kernel_model.specs.Objects.{static_objects, object_of, object_at, is_made, without, with_field, place_for, with_new}
-use Rattle.kernel_model.specs.Transactions.{Reference, static_named, reference_of, Read, counted, with_read, loaded, load, read, read_all, Thing, Work, things, going_on, entered, with_expr, declared_local, assigned, with_made, operated, stored, freed, branched, tested, broken, moved_by, moved, move, BlockEnd, gives, ended_by, ending, stops, goes_on, block_by, block, too_many_operations, bad_reference, most_operations, most_block_moves, too_many_moves}
+use Rattle.kernel_model.specs.Transactions.{Reference, reference_of, Read, counted, with_read, loaded, load, read, read_all, Thing, Work, things, going_on, entered, with_expr, declared_local, assigned, with_made, operated, stored, freed, branched, tested, broken, moved_by, moved, move, BlockEnd, gives, ended_by, ending, stops, goes_on, block_by, block, too_many_operations, bad_reference, most_operations, most_block_moves}
 use Rattle.kernel_model.specs.Transactions.Thing.{Do, End, Test}
-use Rattle.kernel_model.specs.Transactions.BlockEnd.{Gave, Aborted, Fault}
 use Rattle.same_runs.specs.Bare.{bare_expr, bare_tstmt, bare_tblock, bare_program}
 use Rattle.same_runs.proofs.Choices.{if_map}
 use Rattle.same_runs.proofs.TreeLaws.{tstmt_layer, tstmt_out, tblock_out}

@@ -1,5 +1,5 @@
 -- What each kernel call does doesn't depend on the pointers of boxes.
-use Rattle.std.proofs.Common.{◌≡◌, ℕ, zero, suc, ◌+◌, ◌==◌, nat_lt, nat_le, ◌&&◌, not, Bool, true, false, cond, List, [], ◌∷◌, ◌++◌, length, map, Option, Some, None, option_map, refl, sym, ap, ap₂, ◌∙◌}
+use Rattle.std.proofs.Common.{◌≡◌, ℕ, zero, suc, ◌+◌, ◌==◌, nat_lt, nat_le, ◌&&◌, not, cond, List, [], ◌∷◌, ◌++◌, length, map, Option, Some, None, option_map, refl, ap, ap₂, ◌∙◌}
 use Rattle.std.specs.Prelude.{is_none, slice_get, position, unwrap_or}
 use Rattle.std.proofs.lemmas.Option.{slice_get-map}
 use Rattle.kernel_model.specs.declared.what.What.{What}
@@ -12,7 +12,6 @@ use Rattle.kernel_model.specs.Order.{first}
 use Rattle.kernel_model.specs.Serve.{Effect, answers, becomes, held, finish, wake_of, until_of, timed_out}
 use Rattle.kernel_model.specs.Serve.Fate.{ServesBack, Sleeps, Blocks, Goes}
 use Rattle.kernel_model.specs.Calls.{console_room, print, no_thread, born, birth_row, vacant, spawn, delete, delay, with_priority, priority_of, setprio, getprio, capacity_of, maximum_of, with_item, delivered, send, value_sent, refilled, receive, take, give, has_channel, input}
-use Rattle.kernel_model.specs.declared.wait.TheConstants.{NEVER}
 use Rattle.thread_tree.specs.LocalState.{LocalState}
 use Rattle.thread_tree.specs.Program.{Program, Template}
 use Rattle.same_runs.specs.Bare.{bare_template, bare_program}
@@ -58,12 +57,12 @@ spawn_bare p K number arguments =
     ]) (vacant_bare K.rows) ∙ go (vacant K.rows)
   where
     go : (o : Option ℕ) → ◌≡◌ {A = Effect} (elim o [
-          | None ↦ answers (no_thread ∷ []) (bare_state K)
-          | Some u ↦ answers (u ∷ []) (record (with_row (bare_state K) u (birth_row (bare_program p) number arguments K.stamp)) { stamp = K.stamp + 1 })
-        ]) (bare_effect (elim o [
-          | None ↦ answers (no_thread ∷ []) K
-          | Some u ↦ answers (u ∷ []) (record (with_row K u (birth_row p number arguments K.stamp)) { stamp = K.stamp + 1 })
-        ]))
+      | None ↦ answers (no_thread ∷ []) (bare_state K)
+      | Some u ↦ answers (u ∷ []) (record (with_row (bare_state K) u (birth_row (bare_program p) number arguments K.stamp)) { stamp = K.stamp + 1 })
+    ]) (bare_effect (elim o [
+      | None ↦ answers (no_thread ∷ []) K
+      | Some u ↦ answers (u ∷ []) (record (with_row K u (birth_row p number arguments K.stamp)) { stamp = K.stamp + 1 })
+    ]))
     go None = refl
     go (Some u) = ap (λ (L : State). answers (u ∷ []) (record L { stamp = K.stamp + 1 }))
         (ap (with_row (bare_state K) u) (birth_row_bare p number arguments K.stamp) ∙ with_row_bare K u (birth_row p number arguments K.stamp))
@@ -114,12 +113,12 @@ delivered_bare p K queue value =
     ]) (first_bare K Receive queue) ∙ go (first K Receive queue)
   where
     go : (o : Option ℕ) → ◌≡◌ {A = Option State} (elim o [
-          | Some u ↦ Some (finish (bare_state K) u (1 ∷ value ∷ []))
-          | None ↦ cond (nat_lt (length (items_of K queue)) (capacity_of p queue)) (Some (with_item (bare_state K) queue value)) None
-        ]) (option_map bare_state (elim o [
-          | Some u ↦ Some (finish K u (1 ∷ value ∷ []))
-          | None ↦ cond (nat_lt (length (items_of K queue)) (capacity_of p queue)) (Some (with_item K queue value)) None
-        ]))
+      | Some u ↦ Some (finish (bare_state K) u (1 ∷ value ∷ []))
+      | None ↦ cond (nat_lt (length (items_of K queue)) (capacity_of p queue)) (Some (with_item (bare_state K) queue value)) None
+    ]) (option_map bare_state (elim o [
+      | Some u ↦ Some (finish K u (1 ∷ value ∷ []))
+      | None ↦ cond (nat_lt (length (items_of K queue)) (capacity_of p queue)) (Some (with_item K queue value)) None
+    ]))
     go None = if_map (option_map bare_state) (nat_lt (length (items_of K queue)) (capacity_of p queue)) (Some (with_item K queue value)) None
     go (Some u) = ap Some (finish_bare K u (1 ∷ value ∷ []))
 
@@ -142,12 +141,12 @@ value_sent_bare K t =
     ]) (thread_bare K t) ∙ go (thread_of K t)
   where
     go : (o : Option Thread) → ◌≡◌ {A = ℕ} (elim (option_map bare_thread o) [
-          | None ↦ 0
-          | Some thread ↦ elim thread.activity [ Ready ↦ 0 | Delayed wake ↦ 0 | Waiting wait ↦ wait.value ]
-        ]) (elim o [
-          | None ↦ 0
-          | Some thread ↦ elim thread.activity [ Ready ↦ 0 | Delayed wake ↦ 0 | Waiting wait ↦ wait.value ]
-        ])
+      | None ↦ 0
+      | Some thread ↦ elim thread.activity [ Ready ↦ 0 | Delayed wake ↦ 0 | Waiting wait ↦ wait.value ]
+    ]) (elim o [
+      | None ↦ 0
+      | Some thread ↦ elim thread.activity [ Ready ↦ 0 | Delayed wake ↦ 0 | Waiting wait ↦ wait.value ]
+    ])
     go None = refl
     go (Some thread) = refl
 
@@ -160,9 +159,9 @@ refilled_bare K queue =
     ]) (first_bare K Send queue) ∙ go (first K Send queue)
   where
     go : (o : Option ℕ) → ◌≡◌ {A = State} (elim o [
-          | None ↦ bare_state K
-          | Some u ↦ finish (with_item (bare_state K) queue (value_sent (bare_state K) u)) u (1 ∷ [])
-        ]) (bare_state (elim o [ None ↦ K | Some u ↦ finish (with_item K queue (value_sent K u)) u (1 ∷ []) ]))
+      | None ↦ bare_state K
+      | Some u ↦ finish (with_item (bare_state K) queue (value_sent (bare_state K) u)) u (1 ∷ [])
+    ]) (bare_state (elim o [ None ↦ K | Some u ↦ finish (with_item K queue (value_sent K u)) u (1 ∷ []) ]))
     go None = refl
     go (Some u) =
         ap (λ v. finish (with_item (bare_state K) queue v) u (1 ∷ [])) (value_sent_bare K u) ∙ finish_bare (with_item K queue (value_sent K u)) u (1 ∷ [])
@@ -171,12 +170,12 @@ pub receive_bare : (K : State) (queue limit : ℕ) → receive (bare_state K) qu
 receive_bare K queue limit = go (items_of K queue)
   where
     go : (o : List ℕ) → ◌≡◌ {A = Effect} (elim o [
-          | [] ↦ held (bare_state K) Receive queue 0 limit
-          | item ∷ items ↦ answers (1 ∷ item ∷ []) (refilled (with_items (bare_state K) queue items) queue)
-        ]) (bare_effect (elim o [
-          | [] ↦ held K Receive queue 0 limit
-          | item ∷ items ↦ answers (1 ∷ item ∷ []) (refilled (with_items K queue items) queue)
-        ]))
+      | [] ↦ held (bare_state K) Receive queue 0 limit
+      | item ∷ items ↦ answers (1 ∷ item ∷ []) (refilled (with_items (bare_state K) queue items) queue)
+    ]) (bare_effect (elim o [
+      | [] ↦ held K Receive queue 0 limit
+      | item ∷ items ↦ answers (1 ∷ item ∷ []) (refilled (with_items K queue items) queue)
+    ]))
     go [] = held_bare K Receive queue 0 limit
     go (item ∷ items) = ap (answers (1 ∷ item ∷ [])) (refilled_bare (with_items K queue items) queue)
 
@@ -184,12 +183,12 @@ pub take_bare : (K : State) (semaphore limit : ℕ) → take (bare_state K) sema
 take_bare K semaphore limit = go (count_of K semaphore)
   where
     go : (o : ℕ) → ◌≡◌ {A = Effect} (elim o [
-          | zero ↦ held (bare_state K) Take semaphore 0 limit
-          | suc count ↦ answers (1 ∷ []) (with_count (bare_state K) semaphore count)
-        ]) (bare_effect (elim o [
-          | zero ↦ held K Take semaphore 0 limit
-          | suc count ↦ answers (1 ∷ []) (with_count K semaphore count)
-        ]))
+      | zero ↦ held (bare_state K) Take semaphore 0 limit
+      | suc count ↦ answers (1 ∷ []) (with_count (bare_state K) semaphore count)
+    ]) (bare_effect (elim o [
+      | zero ↦ held K Take semaphore 0 limit
+      | suc count ↦ answers (1 ∷ []) (with_count K semaphore count)
+    ]))
     go zero = held_bare K Take semaphore 0 limit
     go (suc count) = refl
 
@@ -201,12 +200,12 @@ give_bare p K semaphore =
     ]) (first_bare K Take semaphore) ∙ go (first K Take semaphore)
   where
     go : (o : Option ℕ) → ◌≡◌ {A = Effect} (elim o [
-          | Some u ↦ answers (1 ∷ []) (finish (bare_state K) u (1 ∷ []))
-          | None ↦ cond (nat_lt (count_of K semaphore) (maximum_of p semaphore)) (answers (1 ∷ []) (with_count (bare_state K) semaphore (count_of K semaphore + 1))) (answers (0 ∷ []) (bare_state K))
-        ]) (bare_effect (elim o [
-          | Some u ↦ answers (1 ∷ []) (finish K u (1 ∷ []))
-          | None ↦ cond (nat_lt (count_of K semaphore) (maximum_of p semaphore)) (answers (1 ∷ []) (with_count K semaphore (count_of K semaphore + 1))) (answers (0 ∷ []) K)
-        ]))
+      | Some u ↦ answers (1 ∷ []) (finish (bare_state K) u (1 ∷ []))
+      | None ↦ cond (nat_lt (count_of K semaphore) (maximum_of p semaphore)) (answers (1 ∷ []) (with_count (bare_state K) semaphore (count_of K semaphore + 1))) (answers (0 ∷ []) (bare_state K))
+    ]) (bare_effect (elim o [
+      | Some u ↦ answers (1 ∷ []) (finish K u (1 ∷ []))
+      | None ↦ cond (nat_lt (count_of K semaphore) (maximum_of p semaphore)) (answers (1 ∷ []) (with_count K semaphore (count_of K semaphore + 1))) (answers (0 ∷ []) K)
+    ]))
     go None = if_map bare_effect (nat_lt (count_of K semaphore) (maximum_of p semaphore)) (answers (1 ∷ []) (with_count K semaphore (count_of K semaphore + 1))) (answers (0 ∷ []) K)
     go (Some u) = ap (answers (1 ∷ [])) (finish_bare K u (1 ∷ []))
 
@@ -216,6 +215,7 @@ input_bare p K channel value = go (position (has_channel channel) p.queues)
     or_stays : (o : Option State) → unwrap_or (option_map bare_state o) (bare_state K) ≡ bare_state (unwrap_or o K)
     or_stays None = refl
     or_stays (Some L) = refl
+
     go : (o : Option ℕ) → ◌≡◌ {A = State} (elim o [ None ↦ bare_state K | Some queue ↦ unwrap_or (delivered (bare_program p) (bare_state K) queue value) (bare_state K) ])
         (bare_state (elim o [ None ↦ K | Some queue ↦ unwrap_or (delivered p K queue value) K ]))
     go None = refl

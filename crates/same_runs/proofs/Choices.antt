@@ -1,5 +1,5 @@
 -- Choices and lists under a function.
-use Rattle.std.proofs.Common.{◌≡◌, ℕ, ◌==◌, nat_lt, not, ◌||◌, Bool, true, false, cond, if◌then◌else◌, List, [], ◌∷◌, ◌++◌, length, map, Option, Some, None, option_map, refl, sym, ap, ap₂, ◌∙◌}
+use Rattle.std.proofs.Common.{◌≡◌, nat_lt, not, ◌||◌, Bool, true, false, cond, List, [], ◌∷◌, map, Some, None, option_map, refl, sym, ap, ap₂, ◌∙◌}
 use Rattle.std.specs.List.{find, flat_map, filter, list_any, position, position_or_len, prefix_len}
 use Rattle.std.proofs.lemmas.List.{map-append, length-map}
 

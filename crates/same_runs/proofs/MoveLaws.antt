@@ -1,6 +1,5 @@
 -- The moves of a thread don't see the pointers of boxes.
-use Rattle.std.proofs.Common.{◌≡◌, ℕ, ◌==◌, Bool, cond, List, [], ◌∷◌, ◌++◌, length, map, take, Option, Some, None, option_map, refl, sym, ap, ap₂, ◌∙◌}
-use Rattle.std.specs.List.{flat_map}
+use Rattle.std.proofs.Common.{◌≡◌, ℕ, ◌==◌, List, [], ◌∷◌, ◌++◌, length, map, take, Option, Some, None, option_map, refl, sym, ap, ap₂, ◌∙◌}
 use Rattle.std.proofs.lemmas.List.{map-append}
 use Rattle.thread_tree.specs.declared.local.Local.{Local}
 use Rattle.thread_tree.specs.declared.place.At.{At}
@@ -18,10 +17,10 @@ use Rattle.thread_tree.specs.declared.block.Stmt.TheOpen.{Stmt-F, Block-F}
 use Rattle.thread_tree.specs.declared.block.Stmt.TheOpen as stmt
 use Rattle.thread_tree.specs.Value.{applied, value_of, values_in}
 use Rattle.thread_tree.specs.Program.{Program, Function, Template, function_of}
-use Rattle.thread_tree.specs.Kinds.{Action, operands_of_who, operands_of_item, operands_of_call, action_layer, action_of}
+use Rattle.thread_tree.specs.Kinds.{Action, operands_of_who, operands_of_item, action_layer, action_of}
 use Rattle.thread_tree.specs.LocalState.{Thing, Frame, LocalState, things, named, with_values, given_to, going_on, entered, returned, chosen_by, tested, branched, broken, called, frame_of, moved_by, finished, moved, move, next_statement, next_action, after_first, next_names, bind, loop_block, turned, turn, birth}
 use Rattle.thread_tree.specs.LocalState.Thing.{Do, End, Test, Turn}
-use Rattle.same_runs.specs.Bare.{bare_expr, bare_item, bare_who, bare_call, bare_stmt, bare_block, bare_layer, bare_function, bare_template, bare_program}
+use Rattle.same_runs.specs.Bare.{bare_expr, bare_item, bare_who, bare_call, bare_stmt, bare_block, bare_function, bare_template, bare_program}
 use Rattle.same_runs.specs.BareStates.{bare_thing, bare_frame, bare_local, bare_action}
 use Rattle.same_runs.proofs.Choices.{if_map, find_map, flat_map_bare}
 use Rattle.same_runs.proofs.TreeLaws.{stmt_layer, stmt_out, block_out}
@@ -255,9 +254,9 @@ turned_bare : (s : LocalState) (statement : Stmt) (rest : List Thing) → turned
 turned_bare s statement rest = rw (loop_bare statement, turned) (go (loop_block (out-Stmt statement)))
   where
     go : (o : Option Block) → ◌≡◌ {A = LocalState} (elim (option_map bare_block o) [
-          | None ↦ bare_local s
-          | Some block ↦ entered (bare_local s) block (Turn (bare_stmt statement) ∷ map bare_thing rest)
-        ]) (bare_local (elim o [ None ↦ s | Some block ↦ entered s block (Turn statement ∷ rest) ]))
+      | None ↦ bare_local s
+      | Some block ↦ entered (bare_local s) block (Turn (bare_stmt statement) ∷ map bare_thing rest)
+    ]) (bare_local (elim o [ None ↦ s | Some block ↦ entered s block (Turn statement ∷ rest) ]))
     go None = refl
     go (Some block) = entered_bare s block (Turn statement ∷ rest)
 
@@ -265,9 +264,9 @@ pub turn_bare : (s : LocalState) → turn (bare_local s) ≡ bare_local (turn s)
 turn_bare s = rw (next_statement_bare s.top.todo, turn) (go (next_statement s.top.todo))
   where
     go : (o : Option Stmt) → ◌≡◌ {A = LocalState} (elim (option_map bare_stmt o) [
-          | None ↦ bare_local s
-          | Some statement ↦ turned (bare_local s) statement (after_first (map bare_thing s.top.todo))
-        ]) (bare_local (elim o [ None ↦ s | Some statement ↦ turned s statement (after_first s.top.todo) ]))
+      | None ↦ bare_local s
+      | Some statement ↦ turned (bare_local s) statement (after_first (map bare_thing s.top.todo))
+    ]) (bare_local (elim o [ None ↦ s | Some statement ↦ turned s statement (after_first s.top.todo) ]))
     go None = refl
     go (Some statement) = ap (turned (bare_local s) (bare_stmt statement)) (after_first_bare s.top.todo) ∙ turned_bare s statement (after_first s.top.todo)
 

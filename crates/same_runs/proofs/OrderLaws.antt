@@ -1,5 +1,5 @@
 -- The order of threads doesn't depend on the pointers of boxes.
-use Rattle.std.proofs.Common.{◌≡◌, ℕ, ◌+◌, Bool, true, false, cond, List, [], ◌∷◌, map, Option, Some, None, option_map, refl, sym, ap, ap₂, ◌∙◌}
+use Rattle.std.proofs.Common.{◌≡◌, ℕ, ◌+◌, Bool, true, false, cond, List, [], ◌∷◌, map, option_map, refl, ap, ap₂, ◌∙◌}
 use Rattle.std.specs.List.{filter, filter_map, slice_get, enumerate_from}
 use Rattle.kernel_model.specs.declared.what.What.{What}
 use Rattle.kernel_model.specs.Kernel.{Thread, Row, State, live_in, is_ready}

@@ -1,15 +1,15 @@
 -- Two trees of one text have the same bare tree, and programs that are alike.
-use Rattle.std.proofs.Common.{◌≡◌, ℕ, List, [], ◌∷◌, map, Option, Some, None, option_map, refl, sym, ap, ap₂, ◌∙◌}
+use Rattle.std.proofs.Common.{◌≡◌, List, [], ◌∷◌, map, Option, option_map, refl, sym, ap, ap₂, ◌∙◌}
 use Rattle.thread_tree.specs.declared.name.Name.{Name}
 use Rattle.thread_tree.specs.declared.place.At.{At}
 use Rattle.thread_tree.specs.declared.place.Num.{Num}
 use Rattle.thread_tree.specs.declared.tree.Decl.{Decl}
 use Rattle.thread_tree.specs.declared.tree.Decl.TheVariants as decl
 use Rattle.thread_tree.specs.declared.tree.Tree.{Tree}
-use Rattle.thread_tree.specs.Program.{Program, Function, Template, Body, Kind, Object, Queue, Semaphore, Start, names_of, values_of, declared, sorted, program_of}
-use Rattle.same_runs.specs.Same.{EachSame, both_empty, both_more, SameDecl, same_kind, same_object, same_queue, same_semaphore, same_function, same_thread, same_start, SameDecls}
+use Rattle.thread_tree.specs.Program.{Program, names_of, values_of, declared, sorted, program_of}
+use Rattle.same_runs.specs.Same.{both_empty, both_more, SameDecl, same_kind, same_object, same_queue, same_semaphore, same_function, same_thread, same_start, SameDecls}
 use Rattle.same_runs.specs.Bare.{bare_decl, bare_tree, bare_block, bare_program}
-use Rattle.same_runs.specs.Alike.{SameFunction, SameTemplate, SameBody, SameProgram}
+use Rattle.same_runs.specs.Alike.{SameProgram}
 use Rattle.same_runs.proofs.SameBare.{each_bare, block_bare}
 
 -- a declaration

@@ -1,8 +1,7 @@
 -- Reliving a thread doesn't depend on the pointers of boxes.
-use Rattle.std.proofs.Common.{◌≡◌, ℕ, ◌+◌, ◌==◌, Bool, true, false, cond, List, [], ◌∷◌, length, map, Option, Some, None, option_map, refl, sym, ap, ap₂, ◌∙◌}
+use Rattle.std.proofs.Common.{◌≡◌, ℕ, ◌+◌, ◌==◌, Bool, true, false, cond, List, [], ◌∷◌, length, Option, Some, None, option_map, refl, ap, ◌∙◌}
 use Rattle.std.specs.Prelude.{slice_get, option_and_then}
 use Rattle.std.proofs.lemmas.Option.{slice_get-map}
-use Rattle.thread_tree.specs.declared.block.Stmt.{Stmt}
 use Rattle.thread_tree.specs.Program.{Program, Template}
 use Rattle.thread_tree.specs.Kinds.{Action, action_of}
 use Rattle.thread_tree.specs.LocalState.{LocalState, birth, bind}
@@ -11,7 +10,7 @@ use Rattle.thread_tree.specs.Ahead.Arrival.{AtAction, Finished, Watchdog}
 use Rattle.thread_tree.specs.Actions.{Spot, loops, inside}
 use Rattle.thread_tree.specs.Relive.{Start, Record, Life, where_as_many, started, records, passed_by, passed, relived, opened, begun, relive}
 use Rattle.thread_tree.specs.Relive.Start.{Birth, Loop}
-use Rattle.same_runs.specs.Bare.{bare_template, bare_stmt, bare_program}
+use Rattle.same_runs.specs.Bare.{bare_template, bare_program}
 use Rattle.same_runs.specs.BareStates.{bare_action, bare_local, bare_arrival, bare_ahead, bare_spot, bare_life}
 use Rattle.same_runs.proofs.Choices.{if_map}
 use Rattle.same_runs.proofs.MoveLaws.{action_bare, bind_bare, birth_bare}
@@ -65,14 +64,14 @@ passed_bare p r life =
     ]) (ahead_bare p life.local) ∙ go (ahead p life.local).arrival
   where
     go : (o : Arrival) → ◌≡◌ {A = Option Life} (elim (bare_arrival o) [
-          | AtAction statement ↦ option_and_then (λ action. passed_by r (bare_life life) (bare_ahead (ahead p life.local)) action) (action_of statement)
-          | Finished ↦ None
-          | Watchdog ↦ None
-        ]) (option_map bare_life (elim o [
-          | AtAction statement ↦ option_and_then (λ action. passed_by r life (ahead p life.local) action) (action_of statement)
-          | Finished ↦ None
-          | Watchdog ↦ None
-        ]))
+      | AtAction statement ↦ option_and_then (λ action. passed_by r (bare_life life) (bare_ahead (ahead p life.local)) action) (action_of statement)
+      | Finished ↦ None
+      | Watchdog ↦ None
+    ]) (option_map bare_life (elim o [
+      | AtAction statement ↦ option_and_then (λ action. passed_by r life (ahead p life.local) action) (action_of statement)
+      | Finished ↦ None
+      | Watchdog ↦ None
+    ]))
     go (AtAction s) =
         ap (option_and_then (λ action. passed_by r (bare_life life) (bare_ahead (ahead p life.local)) action)) (action_bare s)
         ∙ action_passed r life (ahead p life.local) (action_of s)
@@ -98,14 +97,14 @@ opened_bare p life =
     ]) (ahead_bare p life.local) ∙ go (ahead p life.local).arrival
   where
     go : (o : Arrival) → ◌≡◌ {A = Option Life} (elim (bare_arrival o) [
-          | AtAction statement ↦ Some (record (bare_life life) { local = bare_local (ahead p life.local).local; moves = life.moves + (ahead p life.local).moves })
-          | Finished ↦ None
-          | Watchdog ↦ None
-        ]) (option_map bare_life (elim o [
-          | AtAction statement ↦ Some (record life { local = (ahead p life.local).local; moves = life.moves + (ahead p life.local).moves })
-          | Finished ↦ None
-          | Watchdog ↦ None
-        ]))
+      | AtAction statement ↦ Some (record (bare_life life) { local = bare_local (ahead p life.local).local; moves = life.moves + (ahead p life.local).moves })
+      | Finished ↦ None
+      | Watchdog ↦ None
+    ]) (option_map bare_life (elim o [
+      | AtAction statement ↦ Some (record life { local = (ahead p life.local).local; moves = life.moves + (ahead p life.local).moves })
+      | Finished ↦ None
+      | Watchdog ↦ None
+    ]))
     go (AtAction s) = refl
     go Finished = refl
     go Watchdog = refl

@@ -1,9 +1,9 @@
 -- Rows and threads that change, without the pointers of boxes.
-use Rattle.std.proofs.Common.{◌≡◌, ℕ, ◌+◌, ◌-◌, Bool, true, false, cond, List, [], ◌∷◌, length, map, Option, Some, None, option_map, is_some, refl, sym, ap, ap₂, ◌∙◌}
+use Rattle.std.proofs.Common.{◌≡◌, ℕ, ◌+◌, List, Option, Some, None, option_map, is_some, refl, sym, ap, ap₂, ◌∙◌}
 use Rattle.std.proofs.Math.ListN.{get_or-map}
 use Rattle.std.proofs.lemmas.List.{map-set}
 use Rattle.thread_tree.specs.Kinds.{Action}
-use Rattle.thread_tree.specs.LocalState.{LocalState, next_action, bind, turn}
+use Rattle.thread_tree.specs.LocalState.{LocalState, next_action}
 use Rattle.kernel_model.specs.Kernel.{Thread, Row, State, live_in, row_of, thread_of, is_live, row_with, with_row, changed, stamped, behind}
 use Rattle.kernel_model.specs.Kernel.Activity.{Ready}
 use Rattle.kernel_model.specs.Kernel.Row.{Free, Ended, Live}

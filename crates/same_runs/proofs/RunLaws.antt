@@ -1,26 +1,24 @@
 -- The uncut run doesn't depend on the pointers of boxes.
-use Rattle.std.proofs.Common.{◌≡◌, ℕ, zero, suc, ◌+◌, ◌-◌, ◌==◌, nat_lt, not, ◌&&◌, Bool, cond, List, [], ◌∷◌, ◌++◌, length, map, replicate, Option, Some, None, option_map, take, refl, sym, ap, ap₂, ◌∙◌}
+use Rattle.std.proofs.Common.{◌≡◌, ℕ, zero, suc, ◌+◌, ◌-◌, ◌==◌, nat_lt, not, ◌&&◌, cond, List, [], ◌∷◌, ◌++◌, length, map, replicate, Option, Some, None, option_map, take, refl, sym, ap, ap₂, ◌∙◌}
 use Rattle.std.specs.List.{list_any, enumerate_from, range_with_len, fold}
 use Rattle.std.proofs.lemmas.List.{map-append}
 use Rattle.kernel_model.specs.declared.event.Event.{Event}
 use Rattle.kernel_model.specs.declared.event.Event.TheVariants.{Step, Tick, Input}
 use Rattle.kernel_model.specs.Visible.{Object}
-use Rattle.kernel_model.specs.Kernel.{Activity, Thread, Row, State, thread_of, changed, behind}
+use Rattle.kernel_model.specs.Kernel.{Thread, Row, State, thread_of, changed, behind}
 use Rattle.kernel_model.specs.Kernel.Row.{Free}
 use Rattle.kernel_model.specs.Order.{Numbered, live_threads, chosen}
-use Rattle.kernel_model.specs.Objects.{static_objects}
 use Rattle.kernel_model.specs.Numbers.{template_number}
 use Rattle.kernel_model.specs.Serve.{settle, settled, finish}
 use Rattle.kernel_model.specs.Serve.Fate.{Stops}
 use Rattle.kernel_model.specs.Calls.{birth_row}
 use Rattle.kernel_model.specs.Act.{effect_of, need}
 use Rattle.kernel_model.specs.Run.{row_count, record_room, ordinary_end, watchdog, no_record_room, arrived, performed, step_of, step, woken_by, woken, all_woken, is_ready_at, has_equals, rotated, tick, counted, one, start_row, start_rows, initial, on, after}
-use Rattle.thread_tree.specs.declared.block.Stmt.{Stmt}
 use Rattle.thread_tree.specs.Program as program
 use Rattle.thread_tree.specs.Program.{Program}
 use Rattle.thread_tree.specs.Ahead.{Arrival, Ahead, ahead}
 use Rattle.thread_tree.specs.Ahead.Arrival.{AtAction, Finished, Watchdog}
-use Rattle.same_runs.specs.Bare.{bare_stmt, bare_program}
+use Rattle.same_runs.specs.Bare.{bare_program}
 use Rattle.same_runs.specs.BareStates.{bare_arrival, bare_ahead, bare_thread, bare_row, bare_state}
 use Rattle.same_runs.proofs.Choices.{if_map, any_map}
 use Rattle.same_runs.proofs.AheadLaws.{ahead_bare}
@@ -35,16 +33,16 @@ performed_bare : (p : Program) (K : State) (t : ℕ) (a : Ahead) (thread : Threa
 performed_bare p K t a thread = go a.arrival
   where
     go : (o : Arrival) → ◌≡◌ {A = State} (elim (bare_arrival o) [
-          | Finished ↦ settle t (Stops ordinary_end) (bare_state K)
-          | Watchdog ↦ settle t (Stops watchdog) (bare_state K)
-          | AtAction statement ↦ cond (nat_lt record_room (thread.debt + need t a.local.top.locals statement))
-            (settle t (Stops no_record_room) (bare_state K)) (settled t (effect_of (bare_program p) (bare_state K) t a.local.top.locals statement))
-        ]) (bare_state (elim o [
-          | Finished ↦ settle t (Stops ordinary_end) K
-          | Watchdog ↦ settle t (Stops watchdog) K
-          | AtAction statement ↦ cond (nat_lt record_room (thread.debt + need t a.local.top.locals statement))
-            (settle t (Stops no_record_room) K) (settled t (effect_of p K t a.local.top.locals statement))
-        ]))
+      | Finished ↦ settle t (Stops ordinary_end) (bare_state K)
+      | Watchdog ↦ settle t (Stops watchdog) (bare_state K)
+      | AtAction statement ↦ cond (nat_lt record_room (thread.debt + need t a.local.top.locals statement))
+          (settle t (Stops no_record_room) (bare_state K)) (settled t (effect_of (bare_program p) (bare_state K) t a.local.top.locals statement))
+    ]) (bare_state (elim o [
+      | Finished ↦ settle t (Stops ordinary_end) K
+      | Watchdog ↦ settle t (Stops watchdog) K
+      | AtAction statement ↦ cond (nat_lt record_room (thread.debt + need t a.local.top.locals statement))
+          (settle t (Stops no_record_room) K) (settled t (effect_of p K t a.local.top.locals statement))
+    ]))
     go (AtAction s) =
         ap₂ (λ n L. cond (nat_lt record_room (thread.debt + n)) (settle t (Stops no_record_room) (bare_state K)) L)
         (need_bare t a.local.top.locals s)
@@ -74,10 +72,11 @@ step_bare p K =
         (bare_state (elim o [ None ↦ K | Some thread ↦ step_of p K t thread ]))
     there t None = refl
     there t (Some thread) = step_of_bare p K t thread
+
     go : (o : Option ℕ) → ◌≡◌ {A = State} (elim o [
-          | None ↦ bare_state K
-          | Some t ↦ elim (thread_of (bare_state K) t) [ None ↦ bare_state K | Some thread ↦ step_of (bare_program p) (bare_state K) t thread ]
-        ]) (bare_state (elim o [ None ↦ K | Some t ↦ elim (thread_of K t) [ None ↦ K | Some thread ↦ step_of p K t thread ] ]))
+      | None ↦ bare_state K
+      | Some t ↦ elim (thread_of (bare_state K) t) [ None ↦ bare_state K | Some thread ↦ step_of (bare_program p) (bare_state K) t thread ]
+    ]) (bare_state (elim o [ None ↦ K | Some t ↦ elim (thread_of K t) [ None ↦ K | Some thread ↦ step_of p K t thread ] ]))
     go None = refl
     go (Some t) =
         ap (λ (o : Option Thread). elim o [ None ↦ bare_state K | Some thread ↦ step_of (bare_program p) (bare_state K) t thread ]) (thread_bare K t)
@@ -95,13 +94,14 @@ woken_bare K t =
         (bare_state (elim o [ None ↦ K | Some results ↦ finish K t results ]))
     ends None = refl
     ends (Some results) = finish_bare K t results
+
     go : (o : Option Thread) → ◌≡◌ {A = State} (elim (option_map bare_thread o) [
-          | None ↦ bare_state K
-          | Some thread ↦ elim (woken_by K.ticks thread.activity) [ None ↦ bare_state K | Some results ↦ finish (bare_state K) t results ]
-        ]) (bare_state (elim o [
-          | None ↦ K
-          | Some thread ↦ elim (woken_by K.ticks thread.activity) [ None ↦ K | Some results ↦ finish K t results ]
-        ]))
+      | None ↦ bare_state K
+      | Some thread ↦ elim (woken_by K.ticks thread.activity) [ None ↦ bare_state K | Some results ↦ finish (bare_state K) t results ]
+    ]) (bare_state (elim o [
+      | None ↦ K
+      | Some thread ↦ elim (woken_by K.ticks thread.activity) [ None ↦ K | Some results ↦ finish K t results ]
+    ]))
     go None = refl
     go (Some thread) = ends (woken_by K.ticks thread.activity)
 
@@ -129,12 +129,12 @@ rotated_bare K (Some t) =
     ]) (thread_bare K t) ∙ go (thread_of K t)
   where
     go : (o : Option Thread) → ◌≡◌ {A = State} (elim (option_map bare_thread o) [
-          | None ↦ bare_state K
-          | Some thread ↦ cond (has_equals (bare_state K) t thread) (behind (bare_state K) t (λ same. same)) (bare_state K)
-        ]) (bare_state (elim o [
-          | None ↦ K
-          | Some thread ↦ cond (has_equals K t thread) (behind K t (λ same. same)) K
-        ]))
+      | None ↦ bare_state K
+      | Some thread ↦ cond (has_equals (bare_state K) t thread) (behind (bare_state K) t (λ same. same)) (bare_state K)
+    ]) (bare_state (elim o [
+      | None ↦ K
+      | Some thread ↦ cond (has_equals K t thread) (behind K t (λ same. same)) K
+    ]))
     go None = refl
     go (Some thread) =
         ap₂ (λ b L. cond b L (bare_state K)) (equals_bare K t thread) (behind_bare (λ same. same) (λ same. same) (λ other. refl) K t)

@@ -1,5 +1,5 @@
 -- Trees that are the same are the same bare trees.
-use Rattle.std.proofs.Common.{◌≡◌, ℕ, List, [], ◌∷◌, map, Option, Some, None, refl, sym, ap, ap₂, ◌∙◌}
+use Rattle.std.proofs.Common.{◌≡◌, List, ◌∷◌, map, Some, None, refl, sym, ap, ap₂, ◌∙◌}
 use denote.RawPtr.{null_ptr}
 use Rattle.thread_tree.specs.declared.expr.Expr.{Expr}
 use Rattle.thread_tree.specs.declared.expr.Expr.TheVariants as expr
@@ -10,11 +10,11 @@ use Rattle.thread_tree.specs.declared.action.Who.{Who}
 use Rattle.thread_tree.specs.declared.action.Who.TheVariants as who
 use Rattle.thread_tree.specs.declared.action.Call.{Call}
 use Rattle.thread_tree.specs.declared.action.Call.TheVariants as call
-use Rattle.thread_tree.specs.declared.block.Block.{Block, out-Block}
+use Rattle.thread_tree.specs.declared.block.Block.{Block}
 use Rattle.thread_tree.specs.declared.block.Stmt.{Stmt, out-Stmt}
 use Rattle.thread_tree.specs.declared.block.Stmt.TheOpen.{Stmt-F, Block-F}
 use Rattle.thread_tree.specs.declared.block.Stmt.TheOpen as stmt
-use Rattle.thread_tree.specs.declared.transaction.TBlock.{TBlock, out-TBlock}
+use Rattle.thread_tree.specs.declared.transaction.TBlock.{TBlock}
 use Rattle.thread_tree.specs.declared.transaction.TStmt.{TStmt, out-TStmt}
 use Rattle.thread_tree.specs.declared.transaction.TStmt.TheOpen.{TStmt-F, TBlock-F}
 use Rattle.thread_tree.specs.declared.transaction.TStmt.TheOpen as tstmt

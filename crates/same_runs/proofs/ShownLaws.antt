@@ -1,5 +1,5 @@
 -- What can be seen doesn't depend on the pointers of boxes.
-use Rattle.std.proofs.Common.{◌≡◌, ℕ, ◌==◌, nat_lt, List, [], ◌∷◌, ◌++◌, map, Option, Some, None, option_map, refl, sym, ap, ap₂, ◌∙◌, reverse}
+use Rattle.std.proofs.Common.{◌≡◌, ℕ, nat_lt, List, [], ◌∷◌, ◌++◌, map, Option, option_map, refl, sym, ap, ap₂, ◌∙◌, reverse}
 use Rattle.std.specs.List.{filter_map, flat_map, enumerate_from, range_with_len, cons_option}
 use Rattle.std.proofs.Math.Path.{fun_ext}
 use Rattle.std.proofs.lemmas.Grind.{reverse_onto}
@@ -7,8 +7,8 @@ use Rattle.std.proofs.lemmas.List.{map-append}
 use Rattle.kernel_model.specs.declared.what.What.TheVariants.{Send, Receive, Take}
 use Rattle.kernel_model.specs.Kernel as kernel
 use Rattle.kernel_model.specs.Kernel.{Thread, State}
-use Rattle.kernel_model.specs.Visible.{Row, Visible, Queue, Semaphore}
-use Rattle.kernel_model.specs.Order.{in_order, Numbered, live_threads, line_of, waits_for}
+use Rattle.kernel_model.specs.Visible.{Row, Queue, Semaphore}
+use Rattle.kernel_model.specs.Order.{in_order, Numbered, live_threads, waits_for}
 use Rattle.kernel_model.specs.Run.{is_ready_at}
 use Rattle.kernel_model.specs.Show.{shown_row, wake_tick, timed_list, ready_lists, shown_queue, shown_semaphore, visible, bytes_of, names_of}
 use Rattle.thread_tree.specs.Program.{Program, Template}

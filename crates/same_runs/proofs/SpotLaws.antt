@@ -1,15 +1,15 @@
 -- The actions of a program where they stand, without the pointers of boxes.
-use Rattle.std.proofs.Common.{◌≡◌, ℕ, Bool, List, [], ◌∷◌, ◌++◌, length, map, Option, Some, None, option_map, is_some, refl, sym, ap, ap₂, subst, ◌∙◌}
-use Rattle.std.specs.List.{filter, flat_map}
+use Rattle.std.proofs.Common.{◌≡◌, ℕ, List, [], ◌∷◌, ◌++◌, length, map, Option, Some, None, option_map, is_some, refl, sym, ap, ap₂, subst, ◌∙◌}
+use Rattle.std.specs.List.{filter}
 use Rattle.std.proofs.lemmas.List.{map-append}
 use Rattle.thread_tree.specs.declared.block.Block.{Block, Block-F, para-roll-Block, roll-Block, map-Block, out-Block, roll-out-Block, out-roll-Block, ind-Block}
 use Rattle.thread_tree.specs.declared.block.Stmt.{Stmt, Stmt-F, para-Stmt, para-roll-Stmt, roll-Stmt, map-Stmt, out-Stmt, roll-out-Stmt, out-roll-Stmt}
 use Rattle.thread_tree.specs.declared.block.Stmt.TheOpen as stmt
 use Rattle.thread_tree.specs.Program.{Program, Body}
-use Rattle.thread_tree.specs.LocalState.{Thing, LocalState, loop_block, turn}
+use Rattle.thread_tree.specs.LocalState.{Thing, loop_block}
 use Rattle.thread_tree.specs.LocalState.Thing.{Do, End, Test, Turn}
 use Rattle.thread_tree.specs.Actions.{Spot, SpotsOf, SpotsIn, spots_in, spots_of_layer, spots_in_turn, spots_in_layer, declared_by, spots, is_loop, loops, at_turn, inside}
-use Rattle.same_runs.specs.Bare.{bare_expr, bare_stmt, bare_block, bare_body, bare_program}
+use Rattle.same_runs.specs.Bare.{bare_stmt, bare_block, bare_body, bare_program}
 use Rattle.same_runs.specs.BareStates.{bare_thing, bare_local, bare_spot}
 use Rattle.same_runs.proofs.Choices.{flat_map_bare, filter_map_bare}
 use Rattle.same_runs.proofs.TreeLaws.{stmt_layer, stmt_out, block_out}

@@ -1,14 +1,12 @@
 -- What bare trees are, layer by layer.
-use Rattle.std.proofs.Common.{◌≡◌, ℕ, List, [], ◌∷◌, map, Option, Some, None, option_map, refl, sym, ap, ap₂, ◌∙◌}
-use Rattle.thread_tree.specs.declared.block.Block.{Block, out-Block, map-Block, roll-Block, fold_out-Block, out-roll-Block, roll-out-Block}
+use Rattle.std.proofs.Common.{◌≡◌, map, sym, ap, ◌∙◌}
+use Rattle.thread_tree.specs.declared.block.Block.{Block, out-Block, roll-Block, fold_out-Block, out-roll-Block, roll-out-Block}
 use Rattle.thread_tree.specs.declared.block.Stmt.{Stmt, out-Stmt, map-Stmt, roll-Stmt, fold_out-Stmt, out-roll-Stmt, roll-out-Stmt}
-use Rattle.thread_tree.specs.declared.block.Stmt.TheOpen.{Stmt-F, Block-F}
-use Rattle.thread_tree.specs.declared.block.Stmt.TheOpen as stmt
-use Rattle.thread_tree.specs.declared.transaction.TBlock.{TBlock, out-TBlock, map-TBlock, roll-TBlock, fold_out-TBlock, out-roll-TBlock, roll-out-TBlock}
+use Rattle.thread_tree.specs.declared.block.Stmt.TheOpen.{Stmt-F}
+use Rattle.thread_tree.specs.declared.transaction.TBlock.{TBlock, out-TBlock, roll-TBlock, fold_out-TBlock, out-roll-TBlock, roll-out-TBlock}
 use Rattle.thread_tree.specs.declared.transaction.TStmt.{TStmt, out-TStmt, map-TStmt, roll-TStmt, fold_out-TStmt, out-roll-TStmt, roll-out-TStmt}
-use Rattle.thread_tree.specs.declared.transaction.TStmt.TheOpen.{TStmt-F, TBlock-F}
-use Rattle.thread_tree.specs.declared.transaction.TStmt.TheOpen as tstmt
-use Rattle.same_runs.specs.Bare.{bare_expr, bare_tlayer, bare_tstmt, bare_tblock, bare_layer, bare_stmt, bare_block}
+use Rattle.thread_tree.specs.declared.transaction.TStmt.TheOpen.{TStmt-F}
+use Rattle.same_runs.specs.Bare.{bare_tlayer, bare_tstmt, bare_tblock, bare_layer, bare_stmt, bare_block}
 
 -- the layer of a bare statement of a transaction
 abbrev pub tstmt_layer : TStmt-F TStmt TBlock → TStmt-F TStmt TBlock

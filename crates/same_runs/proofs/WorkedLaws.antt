@@ -1,5 +1,5 @@
 -- What bare trees tell apart, and rows that are alike.
-use Rattle.std.proofs.Common.{◌≡◌, ℕ, List, [], ◌∷◌, refl, sym, ap, ◌∙◌, arith}
+use Rattle.std.proofs.Common.{◌≡◌, ℕ, refl, sym, ap, ◌∙◌, arith}
 use Rattle.kernel_model.specs.Kernel.{Thread, Row}
 use Rattle.kernel_model.specs.Kernel.Row.{Free, Ended, Live}
 use Rattle.thread_tree.specs.declared.block.Block.{Block}

@@ -1,5 +1,5 @@
 -- Trees and programs without the pointers of boxes: each box of an expression gets the null pointer.
-use Rattle.std.specs.Prelude.{List, map, Option, option_map}
+use Rattle.std.specs.Prelude.{map, option_map}
 use denote.RawPtr.{null_ptr}
 use Rattle.thread_tree.specs.declared.action.Call.{Call}
 use Rattle.thread_tree.specs.declared.action.Call.TheVariants as call
@@ -7,14 +7,14 @@ use Rattle.thread_tree.specs.declared.action.Item.{Item}
 use Rattle.thread_tree.specs.declared.action.Item.TheVariants as item
 use Rattle.thread_tree.specs.declared.action.Who.{Who}
 use Rattle.thread_tree.specs.declared.action.Who.TheVariants as who
-use Rattle.thread_tree.specs.declared.block.Block.{Block, fold-Block, roll-Block, map-Block}
-use Rattle.thread_tree.specs.declared.block.Stmt.{Stmt, fold-Stmt, roll-Stmt, map-Stmt}
+use Rattle.thread_tree.specs.declared.block.Block.{Block, fold-Block, roll-Block}
+use Rattle.thread_tree.specs.declared.block.Stmt.{Stmt, fold-Stmt, roll-Stmt}
 use Rattle.thread_tree.specs.declared.block.Stmt.TheOpen.{Stmt-F, Block-F}
 use Rattle.thread_tree.specs.declared.block.Stmt.TheOpen as stmt
 use Rattle.thread_tree.specs.declared.expr.Expr.{Expr}
 use Rattle.thread_tree.specs.declared.expr.Expr.TheVariants as expr
-use Rattle.thread_tree.specs.declared.transaction.TBlock.{TBlock, fold-TBlock, roll-TBlock, map-TBlock}
-use Rattle.thread_tree.specs.declared.transaction.TStmt.{TStmt, fold-TStmt, roll-TStmt, map-TStmt}
+use Rattle.thread_tree.specs.declared.transaction.TBlock.{TBlock, fold-TBlock, roll-TBlock}
+use Rattle.thread_tree.specs.declared.transaction.TStmt.{TStmt, fold-TStmt, roll-TStmt}
 use Rattle.thread_tree.specs.declared.transaction.TStmt.TheOpen.{TStmt-F, TBlock-F}
 use Rattle.thread_tree.specs.declared.transaction.TStmt.TheOpen as tstmt
 use Rattle.thread_tree.specs.declared.tree.Decl.{Decl}

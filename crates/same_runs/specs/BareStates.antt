@@ -1,5 +1,5 @@
 -- States of threads and kernels without the pointers of boxes.
-use Rattle.std.specs.Prelude.{ℕ, List, map}
+use Rattle.std.specs.Prelude.{map}
 use Rattle.thread_tree.specs.LocalState.{Thing, Frame, LocalState}
 use Rattle.thread_tree.specs.LocalState.Thing.{Do, End, Test, Turn}
 use Rattle.thread_tree.specs.Ahead.{Arrival, Ahead}
