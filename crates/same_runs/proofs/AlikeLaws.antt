@@ -11,7 +11,7 @@ use Rattle.thread_tree.specs.Program.{Program, program_of}
 use Rattle.thread_tree.specs.LocalState.{LocalState, locals_of}
 use Rattle.thread_tree.specs.Relive.{Start, Record, Life, relive}
 use Rattle.same_runs.specs.Same.{EachSame, both_empty, both_more, SameDecls}
-use Rattle.same_runs.specs.Bare.{bare_tree}
+use Rattle.same_runs.specs.Bare.{bare_program, bare_tree}
 use Rattle.same_runs.specs.BareStates.{bare_local, bare_thread, bare_row, bare_state, bare_life}
 use Rattle.same_runs.specs.Alike.{SameLocal, SameThread, SameRow, both_free, both_ended, both_live, SameKernel, SameLife, SameLives, IsRelivedAlike}
 use Rattle.same_runs.proofs.ProgramLaws.{program_bare, same_program}
@@ -157,6 +157,13 @@ kept_alike t u names decls start rs a b same relived =
 pub exact_alike : (p : Program) (start : Start) (rs : List Record) (a : Thread) → IsRelived p start rs a → IsRelivedAlike p start rs a
 exact_alike p start rs a relived = record {
   lives = same_lives (relive p start rs (is_open a.activity)) (Some (life_of a)) (ap (option_map bare_life) relived.lives);
+  owes = relived.owes;
+}
+
+-- what gives a thread back gives the thread without pointers back
+pub bare_kept : (p : Program) (start : Start) (rs : List Record) (a : Thread) → IsRelived p start rs a → IsRelived (bare_program p) start rs (bare_thread a)
+bare_kept p start rs a relived = record {
+  lives = relive_bare p start rs (is_open a.activity) ∙ ap (option_map bare_life) relived.lives;
   owes = relived.owes;
 }
 

@@ -22,7 +22,7 @@ ghost use Rattle.thread_tree.specs.Relive.{Start, Record, relive};
 ghost use Rattle.thread_tree.specs.Value.{value_of};
 ghost use Rattle.same_runs.specs.Same.{SameExpr, SameDecls};
 ghost use Rattle.same_runs.specs.Bare.{bare_expr, bare_tblock, bare_stmt, bare_template, bare_program, bare_tree};
-ghost use Rattle.same_runs.specs.BareStates.{bare_action, bare_local, bare_ahead, bare_spot, bare_life, bare_state, bare_effect};
+ghost use Rattle.same_runs.specs.BareStates.{bare_action, bare_local, bare_ahead, bare_spot, bare_life, bare_thread, bare_state, bare_effect};
 ghost use Rattle.same_runs.specs.Alike.{SameProgram, SameThread, SameRow, SameKernel, SameLives, IsRelivedAlike};
 
 /// The laws of the programs of one text. It does nothing.
@@ -74,12 +74,14 @@ pub fn runs_alike()
 /// The laws of replay for the programs of one text. It does nothing.
 ///
 /// A start and records give a thread back in both programs, alike, or in neither. What gives a
-/// thread back but for pointers gives each thread that is alike back in the other program, and what
-/// gives a thread back exactly does so but for pointers.
+/// thread back but for pointers gives each thread that is alike back in the other program. What
+/// gives a thread back exactly does so but for pointers, and gives the thread without pointers back
+/// exactly, in the program without them.
 pub fn lives_alike()
     ensures bare { (p : Program) (start : Start) (rs : List Record) (is_open : Bool) → relive (bare_program p) start rs is_open ≡ option_map bare_life (relive p start rs is_open) }
     ensures alike { (t u : Tree) → t.names ≡ u.names → SameDecls t.decls u.decls → (start : Start) (rs : List Record) (is_open : Bool) → SameLives (relive (program_of t) start rs is_open) (relive (program_of u) start rs is_open) }
     ensures kept { (t u : Tree) → t.names ≡ u.names → SameDecls t.decls u.decls → (start : Start) (rs : List Record) (a b : Thread) → SameThread a b → IsRelivedAlike (program_of t) start rs a → IsRelivedAlike (program_of u) start rs b }
+    ensures bare_kept { (p : Program) (start : Start) (rs : List Record) (a : Thread) → IsRelived p start rs a → IsRelived (bare_program p) start rs (bare_thread a) }
     ensures exact { (p : Program) (start : Start) (rs : List Record) (a : Thread) → IsRelived p start rs a → IsRelivedAlike p start rs a }
 {}
 
