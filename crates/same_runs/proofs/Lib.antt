@@ -15,3 +15,4 @@ pub mod ProgramLaws
 pub mod ShownLaws
 pub mod AlikeLaws
 pub mod WorkedLaws
+pub mod BareSame

@@ -27,10 +27,11 @@ ghost use Rattle.same_runs.specs.Alike.{SameProgram, SameThread, SameRow, SameKe
 
 /// The laws of the programs of one text. It does nothing.
 ///
-/// With the null pointer in every box the trees of a text are one tree, whose program is the
-/// program of each without pointers. The programs are alike, and so are the names of their parts.
+/// With the null pointer in every box the trees of a text are one tree. It is the same as each but
+/// for pointers, and its program is the program of each without pointers. The programs are alike, and so are the names of their parts.
 pub fn programs_alike()
     ensures one_tree { (t u : Tree) → t.names ≡ u.names → SameDecls t.decls u.decls → bare_tree t ≡ bare_tree u }
+    ensures itself { (t : Tree) → SameDecls t.decls (bare_tree t).decls }
     ensures bare { (t : Tree) → bare_program (program_of t) ≡ program_of (bare_tree t) }
     ensures alike { (t u : Tree) → t.names ≡ u.names → SameDecls t.decls u.decls → SameProgram (program_of t) (program_of u) }
     ensures names { (t u : Tree) → t.names ≡ u.names → SameDecls t.decls u.decls → names_of (program_of t) ≡ names_of (program_of u) }
