@@ -10,7 +10,7 @@ use Rattle.thread_tree.specs.declared.tree.Tree.{Tree}
 use Rattle.thread_tree.specs.Program.{Program, program_of}
 use Rattle.thread_tree.specs.LocalState.{LocalState, locals_of}
 use Rattle.thread_tree.specs.Relive.{Start, Record, Life, relive}
-use Rattle.same_runs.specs.Same.{EachSame, both_empty, both_more, SameDecls}
+use Rattle.accepted_program.specs.Same.{EachSame, both_empty, both_more, SameDecls}
 use Rattle.same_runs.specs.Bare.{bare_program, bare_tree}
 use Rattle.same_runs.specs.BareStates.{bare_local, bare_thread, bare_row, bare_state, bare_life}
 use Rattle.same_runs.specs.Alike.{SameLocal, SameThread, SameRow, both_free, both_ended, both_live, SameKernel, SameLife, SameLives, IsRelivedAlike}

@@ -7,7 +7,7 @@ use Rattle.thread_tree.specs.declared.tree.Decl.{Decl}
 use Rattle.thread_tree.specs.declared.tree.Decl.TheVariants as decl
 use Rattle.thread_tree.specs.declared.tree.Tree.{Tree}
 use Rattle.thread_tree.specs.Program.{Program, names_of, values_of, declared, sorted, program_of}
-use Rattle.same_runs.specs.Same.{both_empty, both_more, SameDecl, same_kind, same_object, same_queue, same_semaphore, same_function, same_thread, same_start, SameDecls}
+use Rattle.accepted_program.specs.Same.{both_empty, both_more, SameDecl, same_kind, same_object, same_queue, same_semaphore, same_function, same_thread, same_start, SameDecls}
 use Rattle.same_runs.specs.Bare.{bare_decl, bare_tree, bare_block, bare_program}
 use Rattle.same_runs.specs.Alike.{SameProgram}
 use Rattle.same_runs.proofs.SameBare.{each_bare, block_bare}

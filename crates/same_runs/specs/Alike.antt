@@ -1,6 +1,6 @@
 -- When two programs, two threads and two kernels are alike: the same but for the pointers of boxes.
 use Rattle.std.specs.Prelude.{◌≡◌, ℕ, ⊤, List, Option, Some, None, sum_by}
-use Rattle.same_runs.specs.Same.{EachSame, SameBlock}
+use Rattle.accepted_program.specs.Same.{EachSame, SameBlock}
 use Rattle.same_runs.specs.BareStates.{bare_local}
 use Rattle.thread_tree.specs.Program.{Program, Function, Template, Body}
 use Rattle.thread_tree.specs.LocalState.{LocalState, locals_of}

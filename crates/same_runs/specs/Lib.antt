@@ -1,4 +1,3 @@
-pub mod Same
 pub mod Bare
 pub mod BareStates
 pub mod Alike

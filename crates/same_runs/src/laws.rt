@@ -20,7 +20,7 @@ ghost use Rattle.thread_tree.specs.LocalState.{LocalState, move, next_action, bi
 ghost use Rattle.thread_tree.specs.Program.{Program, Template, program_of};
 ghost use Rattle.thread_tree.specs.Relive.{Start, Record, relive};
 ghost use Rattle.thread_tree.specs.Value.{value_of};
-ghost use Rattle.same_runs.specs.Same.{SameExpr, SameDecls};
+ghost use Rattle.accepted_program.specs.Same.{SameExpr, SameDecls};
 ghost use Rattle.same_runs.specs.Bare.{bare_expr, bare_tblock, bare_stmt, bare_template, bare_program, bare_tree};
 ghost use Rattle.same_runs.specs.BareStates.{bare_action, bare_local, bare_ahead, bare_spot, bare_life, bare_thread, bare_state, bare_effect};
 ghost use Rattle.same_runs.specs.Alike.{SameProgram, SameThread, SameRow, SameKernel, SameLives, IsRelivedAlike};
