@@ -28,7 +28,8 @@ ghost use Rattle.same_runs.specs.Alike.{SameProgram, SameThread, SameRow, SameKe
 /// The laws of the programs of one text. It does nothing.
 ///
 /// With the null pointer in every box the trees of a text are one tree. It is the same as each but
-/// for pointers, and its program is the program of each without pointers. The programs are alike, and so are the names of their parts.
+/// for pointers, and its program is the program of each without pointers. The programs are alike,
+/// and the names of their parts are the same.
 pub fn programs_alike()
     ensures one_tree { (t u : Tree) → t.names ≡ u.names → SameDecls t.decls u.decls → bare_tree t ≡ bare_tree u }
     ensures itself { (t : Tree) → SameDecls t.decls (bare_tree t).decls }
