@@ -1,0 +1,10 @@
+pub mod Scanning
+pub mod Answers
+pub mod Ways
+pub mod Places
+pub mod Steps
+pub mod Expressions
+pub mod Calls
+pub mod Blocks
+pub mod Transactions
+pub mod Statements
