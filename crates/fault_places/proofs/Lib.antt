@@ -8,3 +8,5 @@ pub mod Calls
 pub mod Blocks
 pub mod Transactions
 pub mod Statements
+pub mod Declarations
+pub mod Earliest
