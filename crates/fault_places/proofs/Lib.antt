@@ -9,4 +9,5 @@ pub mod Blocks
 pub mod Transactions
 pub mod Statements
 pub mod Declarations
-pub mod Earliest
+pub mod FirstFault
+pub mod Rows

@@ -9,3 +9,4 @@ pub mod OfTransactions
 pub mod OfStatements
 pub mod OfDeclarations
 pub mod Earliest
+pub mod Rows

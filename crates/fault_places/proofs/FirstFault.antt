@@ -3,17 +3,19 @@ use Rattle.std.proofs.Common.{◌≡◌, ℕ, ◌≤◌, List, [], ◌∷◌, �
 use Rattle.thread_tree.specs.declared.place.Place.{Place}
 use Rattle.thread_tree.specs.declared.token.Placed.{Placed}
 use Rattle.thread_tree.specs.declared.tree.Tree.{Tree}
-use Rattle.thread_tree.specs.SpellingOfDeclarations.{SpellsProgram}
+use Rattle.thread_tree.specs.SpellingOfDeclarations.{SpellsDecl, SpellsProgram}
+use Rattle.thread_tree.specs.declared.tree.Decl.{Decl}
 use Rattle.thread_tokens.specs.Scan.{Scan, scan_of}
 use Rattle.thread_check.specs.declared.fault.CheckFault.{CheckFault}
+use Rattle.thread_check.specs.Names.{Names}
 use Rattle.thread_check.specs.Faults.{no_names, fault_of}
 use Rattle.fault_places.specs.Order.{IsBefore, on_earlier_line, on_its_line, IsAtOrBefore, on_line_before, on_same_line, AreBehind, no_more_behind, also_behind, IsRising, no_more_tokens, before_others, place_of, StandsFrom, AllStandFrom, no_more_from, also_from, NeverFalls, no_more_faults, not_behind_others}
 use Rattle.fault_places.specs.Met.{AreAt, no_more_at, also_at, AreMet, arrived, at_token}
 use Rattle.fault_places.specs.Found.{first_of}
-use Rattle.fault_places.specs.OfDeclarations.{faults_of}
+use Rattle.fault_places.specs.OfDeclarations.{declaration_walk, faults_of}
 use Rattle.fault_places.specs.Earliest.{IsEarliest}
 use Rattle.fault_places.proofs.Answers.{first_is}
-use Rattle.fault_places.proofs.Declarations.{declarations_give, declarations_met}
+use Rattle.fault_places.proofs.Declarations.{declaration_walked, declarations_give, declarations_met}
 use Rattle.fault_places.proofs.Scanning.{text_rises}
 
 -- the fault that is answered is the first of all
@@ -83,3 +85,7 @@ earliest_fault text tree fault spelled found =
 -- the faults of a text's program never fall
 pub faults_never_fall : (text : List ℕ) (tree : Tree) → SpellsProgram (scan_of text).tokens tree.decls → NeverFalls (faults_of tree)
 faults_never_fall text tree spelled = met_never_falls (text_rises text) (faults_met _ tree spelled)
+
+-- the faults of a declaration, whatever names are in scope
+pub one_declaration_met : (before after : List Placed) (d : Decl) (names : Names) (loops : ℕ) → SpellsDecl before after d → AreMet before after (declaration_walk names loops d).faults
+one_declaration_met before after d names loops spelled = (declaration_walked spelled).met names loops

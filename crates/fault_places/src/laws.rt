@@ -1,0 +1,33 @@
+// The laws of the places of faults, as contracts of functions that do nothing.
+ghost use Rattle.std.specs.Prelude.{◌≡◌, ℕ, List, [], Some};
+ghost use Rattle.thread_tree.specs.declared.token.Placed.{Placed};
+ghost use Rattle.thread_tree.specs.declared.tree.Decl.{Decl};
+ghost use Rattle.thread_tree.specs.declared.tree.Tree.{Tree};
+ghost use Rattle.thread_tree.specs.SpellingOfDeclarations.{SpellsDecl, SpellsProgram};
+ghost use Rattle.thread_tokens.specs.Scan.{scan_of};
+ghost use Rattle.thread_check.specs.declared.fault.CheckFault.{CheckFault};
+ghost use Rattle.thread_check.specs.Names.{Names};
+ghost use Rattle.thread_check.specs.Faults.{fault_of};
+ghost use Rattle.fault_places.specs.Order.{IsRising, NeverFalls};
+ghost use Rattle.fault_places.specs.Met.{AreMet};
+ghost use Rattle.fault_places.specs.Found.{first_of};
+ghost use Rattle.fault_places.specs.OfDeclarations.{declaration_walk, faults_of};
+ghost use Rattle.fault_places.specs.Earliest.{IsEarliest};
+
+/// Tokens, and the faults of what they spell, come in order of their places.
+///
+/// `declaration` holds whatever names are in scope and whatever was counted before.
+#[tactic(auto, using(crate::proofs::Scanning::text_rises, crate::proofs::FirstFault::one_declaration_met, crate::proofs::FirstFault::faults_met, crate::proofs::FirstFault::faults_never_fall))]
+pub fn rising()
+    ensures tokens { (text : List ℕ) → IsRising (scan_of text).tokens }
+    ensures declaration { (before after : List Placed) (d : Decl) (names : Names) (loops : ℕ) → SpellsDecl before after d → AreMet before after (declaration_walk names loops d).faults }
+    ensures program { (tokens : List Placed) (tree : Tree) → SpellsProgram tokens tree.decls → AreMet tokens [] (faults_of tree) }
+    ensures faults { (text : List ℕ) (tree : Tree) → SpellsProgram (scan_of text).tokens tree.decls → NeverFalls (faults_of tree) }
+{}
+
+/// The fault that is answered is one of all the faults of the program, and none of them stands before it.
+#[tactic(auto, using(crate::proofs::FirstFault::first_fault, crate::proofs::FirstFault::earliest_fault))]
+pub fn earliest()
+    ensures first { (tokens : List Placed) (tree : Tree) → SpellsProgram tokens tree.decls → fault_of tree ≡ first_of (faults_of tree) }
+    ensures none_before { (text : List ℕ) (tree : Tree) (fault : CheckFault) → SpellsProgram (scan_of text).tokens tree.decls → fault_of tree ≡ Some fault → IsEarliest fault (faults_of tree) }
+{}
