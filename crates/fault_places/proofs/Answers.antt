@@ -1,5 +1,5 @@
 -- The answer of rules of which the first fault counts, from all the faults that they find.
-use Rattle.std.proofs.Common.{◌≡◌, Bool, true, false, cond, List, [], ◌∷◌, ◌++◌, Option, Some, None, Ok, Err, refl, sym, ap, ap₂, ◌∙◌}
+use Rattle.std.proofs.Common.{◌≡◌, Bool, true, false, cond, if◌then◌else◌, List, [], ◌∷◌, ◌++◌, Option, Some, None, Ok, Err, refl, sym, ap, ap₂, ◌∙◌}
 use Rattle.thread_check.specs.declared.fault.CheckFault.{CheckFault}
 use Rattle.thread_check.specs.Verdict.{Verdict, Answer, fine, ◌>>=◌, ◌>>◌}
 use Rattle.thread_check.specs.Faults.{fault_in}
@@ -79,6 +79,36 @@ joined_three v w u {r} e h = record { same = brackets_of_three v w u r ∙ (ahea
 
 pub joined_finds : (v w : Verdict) {u : Verdict} {fs gs : List CheckFault} → Finds (v >> w) fs → Finds u gs → Finds (v >> w >> u) (fs ++ gs)
 joined_finds v w {u} e h = record { same = brackets v w u ∙ (both e h).same }
+
+-- a second rule that is asked only where the first is kept
+pub both_if : (v w : Verdict) (fs gs : List CheckFault) → Finds v fs → (v ≡ fine → Finds w gs) → Finds (v >> w) (fs ++ gs)
+both_if (Ok u) w [] gs e h = h refl
+both_if (Ok u) w (f ∷ fs) gs e h = absurd (let wrong = e.same in cc)
+both_if (Err fault) w [] gs e h = absurd (let wrong = e.same in cc)
+both_if (Err fault) w (f ∷ fs) gs e h = record { same = e.same }
+
+-- the first of two rules is kept where both are
+pub fine_first : (v w : Verdict) → (v >> w) ≡ fine → v ≡ fine
+fine_first (Ok u) w is = refl
+fine_first (Err fault) w is = is
+
+-- a third rule behind two
+pub joined_if : (v w u : Verdict) (fs gs : List CheckFault) → Finds (v >> w) fs → (v ≡ fine → Finds u gs) → Finds (v >> w >> u) (fs ++ gs)
+joined_if v w u fs gs e h = record { same = brackets v w u ∙ (both_if (v >> w) u fs gs e (λ passed. h (fine_first v w passed))).same }
+
+-- two rules of which one is kept, with their faults in one order or the other
+pub second_fine : (b : Bool) (v w : Verdict) → v ≡ fine → Finds (v >> w) (if b then found_by w ++ found_by v else found_by v ++ found_by w)
+second_fine b (Err fault) w is = absurd (cc)
+second_fine true (Ok u) (Ok x) is = none
+second_fine true (Ok u) (Err fault) is = one (Err fault)
+second_fine false (Ok u) w is = one w
+
+pub first_fine : (b : Bool) (v w : Verdict) → w ≡ fine → Finds (v >> w) (if b then found_by w ++ found_by v else found_by v ++ found_by w)
+first_fine b v (Err fault) is = absurd (cc)
+first_fine true (Ok u) (Ok x) is = none
+first_fine false (Ok u) (Ok x) is = none
+first_fine true (Err fault) (Ok x) is = one (Err fault)
+first_fine false (Err fault) (Ok x) is = one (Err fault)
 
 first_at : {A : Type 0} (fs : List CheckFault) (a : A) → fault_in (answer_of fs a) ≡ first_of fs
 first_at [] a = refl

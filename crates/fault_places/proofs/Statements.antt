@@ -23,9 +23,8 @@ use Rattle.fault_places.specs.OfExpressions.{expression_faults, expressions_faul
 use Rattle.fault_places.specs.OfCalls.{takers_faults, call_faults}
 use Rattle.fault_places.specs.OfBlocks.{Walk, walk_if_some, walk_in_turn, walk_block}
 use Rattle.fault_places.specs.OfStatements.{taker_faults, room_faults, callee_faults, ploop_faults, atomic_walk, statement_steps, block_steps, statement_walk, block_walk}
-use Rattle.fault_places.specs.Met.{AreAt, AreMet, arrived}
 use Rattle.fault_places.proofs.Answers.{Finds, Gives, one, none, both, left_as, ahead, passes, joined_three}
-use Rattle.fault_places.proofs.Ways.{at_both, then_way, meet, skip, skip_placed, then_last}
+use Rattle.fault_places.proofs.Ways.{AreIn, in_none, raised, Meets, none_met, at_both, then_way, meet, skip, skip_placed, then_last}
 use Rattle.fault_places.proofs.Places.{used_at, count_at, limit_at, allowed_at}
 use Rattle.fault_places.proofs.Expressions.{expression_finds, expression_met, expressions_find}
 use Rattle.fault_places.proofs.Calls.{takers_find, takers_met, results_met, arguments_met, call_finds, call_met}
@@ -88,19 +87,19 @@ module _ (names : Names) where
   block_walk_out b scope = ap (λ walk. walk scope) (fold_out-Block Walk Walk (statement_steps names (λ walk. walk)) block_steps b)
 
   -- a statement, by its layer
-  by_layer : {a b : List Placed} (s : Stmt) {k : Stmt-F Stmt Block} → out-Stmt s ≡ k → ((scope : Scope) → Gives (statement_parts names k scope) (steps_of k scope)) → ((scope : Scope) → AreMet a b (steps_of k scope).faults) → IsWalked a b (statement_rule names s) (statement_walk names s)
+  by_layer : {a b : List Placed} (s : Stmt) {k : Stmt-F Stmt Block} → out-Stmt s ≡ k → ((scope : Scope) → Gives (statement_parts names k scope) (steps_of k scope)) → ((scope : Scope) → Meets a b (steps_of k scope).faults) → IsWalked a b (statement_rule names s) (statement_walk names s)
   by_layer {a} {b} s {k} is gives met =
       let walked : (scope : Scope) → statement_walk names s scope ≡ steps_of k scope = λ scope. walk_out s scope ∙ ap (λ x. steps_of x scope) is in
       record {
         gives = λ scope. record { same = rule_out s scope ∙ (ap (λ x. statement_parts names x scope) is ∙ ((gives scope).same ∙ sym (ap answer (walked scope)))) };
-        met = λ scope. subst (λ x. AreMet a b x.faults) (sym (walked scope)) (met scope);
+        met = λ scope. subst (λ x. Meets a b x.faults) (sym (walked scope)) (met scope);
       }
 
   -- a block, by its layer
   by_block : {a b : List Placed} (x : Block) → IsWalked a b (block_parts names (out-Block x)) (walk_block (out-Block x).place (map (statement_walk names) (out-Block x).stmts)) → IsWalked a b (block_rule names x) (block_walk names x)
   by_block {a} {b} x walked = record {
     gives = λ scope. record { same = block_rule_out x scope ∙ ((walked.gives scope).same ∙ sym (ap answer (block_walk_out x scope))) };
-    met = λ scope. subst (λ y. AreMet a b y.faults) (sym (block_walk_out x scope)) (walked.met scope);
+    met = λ scope. subst (λ y. Meets a b y.faults) (sym (block_walk_out x scope)) (walked.met scope);
   }
 
   -- a local that takes a result
@@ -109,11 +108,11 @@ module _ (names : Names) where
   taker_finds scope None = none
   taker_finds scope (Some at) = one (used_as_local names scope at)
 
-  taker_at : (scope : Scope) (at : At) → AreAt at.place (taker_faults names scope (Some at))
+  taker_at : (scope : Scope) (at : At) → AreIn at.place 2 0 (taker_faults names scope (Some at))
   unfolding taker_faults
   taker_at scope at = used_at names scope _ at
 
-  none_taken : {a b : List Placed} {fs : List _} (scope : Scope) → AreMet a b fs → AreMet a b (taker_faults names scope None ++ fs)
+  none_taken : {a b : List Placed} {fs : List _} (scope : Scope) → Meets a b fs → Meets a b (taker_faults names scope None ++ fs)
   unfolding taker_faults
   none_taken scope way = way
 
@@ -126,7 +125,7 @@ module _ (names : Names) where
       (both (one (within_limit callee.place kind.Locals 48 (length scope.locals + (peak_of names callee.name).locals)))
       (one (within_limit callee.place kind.Nesting 24 (scope.blocks + (peak_of names callee.name).blocks)))))
 
-  callee_at : (scope : Scope) (callee : At) (count : ℕ) → AreAt callee.place (callee_faults names scope callee count)
+  callee_at : (scope : Scope) (callee : At) (count : ℕ) → AreIn callee.place 5 0 (callee_faults names scope callee count)
   callee_at scope callee count =
       at_both (used_at names scope _ callee)
       (at_both (count_at callee.place (arity names callee.name) count)
@@ -134,7 +133,7 @@ module _ (names : Names) where
       (limit_at callee.place kind.Nesting 24 (scope.blocks + (peak_of names callee.name).blocks))))
 
   -- the word `ploop`
-  ploop_at : (scope : Scope) (place : Place) → AreAt place (ploop_faults names place scope)
+  ploop_at : (scope : Scope) (place : Place) → AreIn place 5 0 (ploop_faults names place scope)
   ploop_at scope place =
       at_both (allowed_at place (not names.in_function)) (at_both (limit_at place kind.Loops 64 (scope.loops + 1)) (limit_at place kind.Scope 16 (length scope.locals)))
 
@@ -145,8 +144,8 @@ module _ (names : Names) where
       (passes (λ inner. Ok (closed scope inner)) _ inside (λ inner. left_as (closed scope inner)))
 
   -- the names that get what an `atomic` gives
-  given_met : {a b : List Placed} (scope : Scope) (fits : _) {to : List At} → SpellsGiven a b to → AreMet a b (takers_faults names scope fits to)
-  given_met scope fits no_given = arrived
+  given_met : {a b : List Placed} (scope : Scope) (fits : _) {to : List At} → SpellsGiven a b to → Meets a b (takers_faults names scope fits to)
+  given_met scope fits no_given = none_met
   given_met scope fits (given o l) = skip o (takers_met names scope fits l)
 
   mutual
@@ -167,24 +166,24 @@ module _ (names : Names) where
     stmt_walked (let_to {s} {name} {e} h l n q x m) =
         by_layer s h
         (λ scope. ahead (new_local_finds names scope name) (ahead (expression_finds names scope e) (left_as (with_local name.name scope))))
-        (λ scope. skip l (meet n (new_local_at names scope name) (skip q (then_way (expression_met names scope x) (skip m arrived)))))
+        (λ scope. skip l (meet n (new_local_at names scope name) (skip q (then_way (expression_met names scope x) (skip m none_met)))))
     stmt_walked (set {s} {name} {e} h n q x m) =
         by_layer s h
         (λ scope. ahead (one (used_as_local names scope name)) (ahead (expression_finds names scope e) (left_as scope)))
-        (λ scope. meet n (used_at names scope _ name) (skip q (then_way (expression_met names scope x) (skip m arrived))))
+        (λ scope. meet n (used_at names scope _ name) (skip q (then_way (expression_met names scope x) (skip m none_met))))
     stmt_walked (apply_to {s} {name} {function} {es} h n q k o l m) =
         by_layer s h
         (λ scope. ahead (taker_finds scope (Some name)) (ahead (callee_finds scope function (length es)) (ahead (expressions_find names scope es) (left_as (after_call (peak_of names function.name) scope)))))
-        (λ scope. meet n (taker_at scope name) (skip q (meet k (callee_at scope function (length es)) (skip o (then_way (arguments_met names scope l) (skip m arrived))))))
+        (λ scope. meet n (taker_at scope name) (skip q (meet k (callee_at scope function (length es)) (skip o (then_way (arguments_met names scope l) (skip m none_met))))))
     stmt_walked (apply {s} {function} {es} h n o l m) =
         by_layer s h
         (λ scope. ahead (taker_finds scope None) (ahead (callee_finds scope function (length es)) (ahead (expressions_find names scope es) (left_as (after_call (peak_of names function.name) scope)))))
-        (λ scope. none_taken scope (meet n (callee_at scope function (length es)) (skip o (then_way (arguments_met names scope l) (skip m arrived)))))
+        (λ scope. none_taken scope (meet n (callee_at scope function (length es)) (skip o (then_way (arguments_met names scope l) (skip m none_met)))))
     stmt_walked (if_only {s} {e} h i x d) =
         let inside = block_of_body_walked d in
         by_layer s h
         (λ scope. ahead (expression_finds names scope e) (passes (if_some (block_rule names) None) (walk_if_some (block_walk names) None) (inside.gives scope) (λ inner. left_as inner)))
-        (λ scope. skip i (then_way (expression_met names scope x) (then_way (inside.met scope) arrived)))
+        (λ scope. skip i (then_way (expression_met names scope x) (then_way (inside.met scope) none_met)))
     stmt_walked (if_else {s} {e} {other} h i x d l f) =
         let inside = block_of_body_walked d in
         let behind = block_of_body_walked f in
@@ -195,24 +194,24 @@ module _ (names : Names) where
         let inside = block_of_body_walked d in
         by_layer s h
         (λ scope. ahead (expression_finds names scope e) (passes (λ inner. Ok (closed scope inner)) _ (inside.gives (looping scope)) (λ inner. left_as (closed scope inner))))
-        (λ scope. skip w (then_way (expression_met names scope x) (then_way (inside.met (looping scope)) arrived)))
+        (λ scope. skip w (then_way (expression_met names scope x) (then_way (inside.met (looping scope)) none_met)))
     stmt_walked (ploop_spelled {s} {place} {inside = body} h w d) =
         let inside = block_of_body_walked d in
         by_layer s h
         (λ scope. ploop_gives scope place (block_rule names body) (block_walk names body) (inside.gives (ploop scope)))
-        (λ scope. meet w (ploop_at scope place) (then_way (inside.met (ploop scope)) arrived))
+        (λ scope. meet w (ploop_at scope place) (then_way (inside.met (ploop scope)) none_met))
     stmt_walked (break_loop {s} {place} h w m) =
-        by_layer s h (λ scope. ahead (one (allowed place scope.in_loop)) (left_as scope)) (λ scope. meet w (allowed_at place scope.in_loop) (skip m arrived))
-    stmt_walked (return_only {s} h w m) = by_layer s h (λ scope. left_as scope) (λ scope. skip_placed w (skip m arrived))
+        by_layer s h (λ scope. ahead (one (allowed place scope.in_loop)) (left_as scope)) (λ scope. meet w (allowed_at place scope.in_loop) (skip m none_met))
+    stmt_walked (return_only {s} h w m) = by_layer s h (λ scope. left_as scope) (λ scope. skip_placed w (skip m none_met))
     stmt_walked (return_value {s} {place} {e} h w x m) =
         by_layer s h
         (λ scope. ahead (one (allowed place names.in_function)) (ahead (expression_finds names scope e) (left_as scope)))
-        (λ scope. meet w (allowed_at place names.in_function) (then_way (expression_met names scope x) (skip m arrived)))
+        (λ scope. meet w (allowed_at place names.in_function) (then_way (expression_met names scope x) (skip m none_met)))
     stmt_walked (atomic {s} {names = to} {inside = body} h w g d) =
         by_layer s h
         (λ scope. ahead (takers_find names scope (nat_le (length to) 4) to) (passes (λ inner. Ok (record scope { peak = inner.peak })) _ ((tblock_walked (transaction names scope to) d).gives (record scope { in_loop = false })) (λ inner. left_as (record scope { peak = inner.peak }))))
-        (λ scope. skip_placed w (then_way (given_met scope (nat_le (length to) 4) g) (then_way ((tblock_walked (transaction names scope to) d).met (record scope { in_loop = false })) arrived)))
+        (λ scope. skip_placed w (then_way (given_met scope (nat_le (length to) 4) g) (then_way ((tblock_walked (transaction names scope to) d).met (record scope { in_loop = false })) none_met)))
     stmt_walked (call {s} {c} {names = to} h asked ends) =
         by_layer s h
         (λ scope. ahead (call_finds names scope c) (ahead (takers_find names scope (length to == result_count (kind_of_call c) 0) to) (left_as scope)))
-        (λ scope. then_way (call_met names scope asked) (then_way (results_met names scope (length to == result_count (kind_of_call c) 0) ends) arrived))
+        (λ scope. then_way (call_met names scope asked) (then_way (results_met names scope (length to == result_count (kind_of_call c) 0) ends) none_met))

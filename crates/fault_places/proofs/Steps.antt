@@ -1,5 +1,5 @@
--- The first step of a way, over the first token.
-use Rattle.std.proofs.Common.{◌≡◌, ◌==◌, ◌&&◌, arith, Bool, true, false, if◌then◌else◌, List, [], ◌∷◌, ◌++◌, Some, append_assoc, append-nil, refl, sym, ap, ◌∙◌, subst}
+-- The first step of a way, over the first token, and the count of a print's items.
+use Rattle.std.proofs.Common.{◌≡◌, ℕ, ◌<◌, ◌≤◌, ◌==◌, ◌&&◌, arith, Bool, true, false, cond, if◌then◌else◌, List, [], ◌∷◌, ◌++◌, Some, append_assoc, append-nil, refl, sym, ap, ◌∙◌, subst}
 use Rattle.std.proofs.lemmas.Bool.Decides.{nat_tests}
 use Rattle.thread_tree.specs.declared.place.Place.{Place}
 use Rattle.thread_tree.specs.declared.token.Placed.{Placed}
@@ -9,88 +9,62 @@ use Rattle.thread_tree.specs.SpellingOfCalls.{BeginsAt}
 use Rattle.thread_check.specs.declared.fault.CheckFault.{CheckFault}
 use Rattle.thread_check.specs.declared.fault.CheckFault.TheVariants.{UnknownName, TwiceNamed, NotAllowedHere, WrongCount, OutOfRange, TooMany, NoMemory}
 use Rattle.thread_check.specs.Verdict.{same_place, stands_at}
-use Rattle.fault_places.specs.Order.{place_of}
+use Rattle.fault_places.specs.Order.{IsBefore, on_earlier_line, on_its_line, AreBehind, also_behind, IsRising, before_others, place_of}
 use Rattle.fault_places.specs.OfCalls.{counted_faults}
 use Rattle.fault_places.specs.Met.{AreAt, no_more_at, also_at, AreMet, arrived, at_token}
-use Rattle.fault_places.proofs.Ways.{then_way}
+use Rattle.fault_places.proofs.Ways.{AreIn, in_none, in_also, raised, at_both, all_at, Meets, none_met, others_rise, taken, then_way}
 
 -- a way over a first token
-pub record IsStep (t : Placed) (rest after : List Placed) (faults : List CheckFault) : Type 0 where
-  pub there : List CheckFault
-  pub further : List CheckFault
-  pub here : AreAt t.place there
-  pub way : AreMet rest after further
-  pub split : faults ≡ there ++ further
-
--- a way that has a first token
 pub record StepsFrom (before after : List Placed) (faults : List CheckFault) : Type 0 where
   pub first : Placed
   pub rest : List Placed
   pub begins : before ≡ first ∷ rest
-  pub step : IsStep first rest after faults
+  pub there : List CheckFault
+  pub further : List CheckFault
+  pub here : AreIn first.place 5 0 there
+  pub way : Meets rest after further
+  pub split : faults ≡ there ++ further
 
-pub step_way : {a b : List Placed} {fs : List CheckFault} → StepsFrom a b fs → AreMet a b fs
-step_way s = rw (s.begins) (at_token s.step.here s.step.way s.step.split)
+pub over : {t : Placed} {a b c : List Placed} {fs gs : List CheckFault} → a ≡ t ∷ b → AreIn t.place 5 0 fs → Meets b c gs → StepsFrom a c (fs ++ gs)
+over {t} {b} {fs} {gs} begins here way = record { first = t; rest = b; begins = begins; there = fs; further = gs; here = here; way = way; split = refl }
 
-pub over : {t : Placed} {a b c : List Placed} {fs gs : List CheckFault} → a ≡ t ∷ b → AreAt t.place fs → AreMet b c gs → StepsFrom a c (fs ++ gs)
-over {t = t} {b = b} {fs = fs} {gs = gs} begins here way = record { first = t; rest = b; begins = begins; step = record { there = fs; further = gs; here = here; way = way; split = refl } }
+pub first_step : {t : Token} {place : Place} {a b c : List Placed} {fs gs : List CheckFault} → Takes t place a b → AreIn place 2 0 fs → Meets b c gs → StepsFrom a c (fs ++ gs)
+first_step takes here way = over takes.first (raised 5 (omega arith) here) way
 
-pub first_step : {t : Token} {place : Place} {a b c : List Placed} {fs gs : List CheckFault} → Takes t place a b → AreAt place fs → AreMet b c gs → StepsFrom a c (fs ++ gs)
-first_step takes here way = over takes.first here way
-
-pub last_step : {t : Token} {place : Place} {a b : List Placed} {fs : List CheckFault} → Takes t place a b → AreAt place fs → StepsFrom a b fs
-last_step {a = a} {b = b} {fs = fs} takes here = subst (λ faults. StepsFrom a b faults) (append-nil fs) (over takes.first here arrived)
+pub last_step : {t : Token} {place : Place} {a b : List Placed} {fs : List CheckFault} → Takes t place a b → AreIn place 2 0 fs → StepsFrom a b fs
+last_step {a} {b} {fs} takes here = subst (λ faults. StepsFrom a b faults) (append-nil fs) (first_step takes here none_met)
 
 -- with a way behind it
-pub step_then : {a b c : List Placed} {fs gs : List CheckFault} → StepsFrom a b fs → AreMet b c gs → StepsFrom a c (fs ++ gs)
-step_then {gs = gs} s way = record {
+pub step_then : {a b c : List Placed} {fs gs : List CheckFault} → StepsFrom a b fs → Meets b c gs → StepsFrom a c (fs ++ gs)
+step_then {gs} s way = record {
   first = s.first;
   rest = s.rest;
   begins = s.begins;
-  step = record {
-    there = s.step.there;
-    further = s.step.further ++ gs;
-    here = s.step.here;
-    way = then_way s.step.way way;
-    split = ap (λ faults. faults ++ gs) s.step.split ∙ append_assoc s.step.there s.step.further gs;
-  };
+  there = s.there;
+  further = s.further ++ gs;
+  here = s.here;
+  way = then_way s.way way;
+  split = ap (λ faults. faults ++ gs) s.split ∙ append_assoc s.there s.further gs;
 }
 
-tail_is : {x y : CheckFault} {xs ys : List CheckFault} → x ∷ xs ≡ y ∷ ys → xs ≡ ys
-tail_is e = cc
+-- faults that stand behind a place
+pub data AreLater (place : Place) : List CheckFault → Type 0 where
+  no_more_later : AreLater place []
+  also_later : {q : Place} {fault : CheckFault} {rest : List CheckFault} → IsBefore place q → place_of fault ≡ Some q → AreLater place rest → AreLater place (fault ∷ rest)
 
--- a way on which nothing is looked for
-empty_way : {a c : List Placed} {fs : List CheckFault} → AreMet a c fs → AreMet a c []
-empty_way arrived = arrived
-empty_way (at_token here way e) = at_token no_more_at (empty_way way) refl
+later_both : {p : Place} {fs gs : List CheckFault} → AreLater p fs → AreLater p gs → AreLater p (fs ++ gs)
+later_both no_more_later more = more
+later_both (also_later before stands rest) more = also_later before stands (later_both rest more)
 
--- a way without its first fault
-drop_met : {a c : List Placed} {gs : List CheckFault} (fault : CheckFault) (fs : List CheckFault) → gs ≡ fault ∷ fs → AreMet a c gs → AreMet a c fs
-drop_met fault fs is arrived = absurd (cc)
-drop_met fault fs is (at_token {there = []} {further} here way e) = at_token no_more_at (drop_met fault fs (sym e ∙ is) way) refl
-drop_met fault fs is (at_token {there = x ∷ there} {further} (also_at stands here) way e) =
-    at_token here way (tail_is (sym is ∙ e))
+at_later : {p q : Place} {fs : List CheckFault} → IsBefore p q → AreAt q fs → AreLater p fs
+at_later before no_more_at = no_more_later
+at_later before (also_at stands first rest) = also_later before stands (at_later before rest)
 
--- a step without the first fault
-drop_step : {t : Placed} {rest c : List Placed} (fault : CheckFault) (fs : List CheckFault) → IsStep t rest c (fault ∷ fs) → IsStep t rest c fs
-drop_step {t = t} {rest = rest} {c = c} fault fs s = dropped s.there s.here s.split where
-  dropped : (there : List CheckFault) → AreAt t.place there → fault ∷ fs ≡ there ++ s.further → IsStep t rest c fs
-  dropped [] here e = record { there = []; further = fs; here = no_more_at; way = drop_met fault fs (sym e) s.way; split = refl }
-  dropped (x ∷ there) (also_at stands here) e = record { there = there; further = s.further; here = here; way = s.way; split = tail_is e }
-
--- a step with one more fault at its token, and with more
-add_step : {t : Placed} {rest c : List Placed} {fs : List CheckFault} (fault : CheckFault) → place_of fault ≡ Some t.place → IsStep t rest c fs → IsStep t rest c (fault ∷ fs)
-add_step fault stands s = record {
-  there = fault ∷ s.there;
-  further = s.further;
-  here = also_at stands s.here;
-  way = s.way;
-  split = ap (λ faults. fault ∷ faults) s.split;
-}
-
-add_steps : {t : Placed} {rest c : List Placed} {fs limit : List CheckFault} → AreAt t.place limit → IsStep t rest c fs → IsStep t rest c (limit ++ fs)
-add_steps no_more_at s = s
-add_steps (also_at {fault} stands more) s = add_step fault stands (add_steps more s)
+-- faults that are met at tokens behind a place stand behind it
+pub met_later : {p : Place} {a b : List Placed} {fs : List CheckFault} → AreBehind p a → AreMet a b fs → AreLater p fs
+met_later behind arrived = no_more_later
+met_later {p} (also_behind before more) (at_token {there} {further} here way e) =
+    subst (λ faults. AreLater p faults) (sym e) (later_both (at_later before here) (met_later more way))
 
 both_hold : (a b : Bool) → (a && b) ≡ true → (a ≡ true) × (b ≡ true)
 both_hold true true h = (refl, refl)
@@ -117,21 +91,61 @@ there place (OutOfRange at number) holds = ap Some (same_test at place holds)
 there place (TooMany at counted number) holds = ap Some (same_test at place holds)
 there place NoMemory holds = absurd (let wrong : false ≡ true = holds in cc)
 
--- a step with the fault of a count, which stands at its token behind the faults there
-by_choice : (b : Bool) {t : Placed} {rest c : List Placed} {xs ys : List CheckFault} → (b ≡ true → IsStep t rest c xs) → IsStep t rest c ys → IsStep t rest c (if b then xs else ys)
-by_choice true yes_step no_step = yes_step refl
-by_choice false yes_step no_step = no_step
+-- and the other way round
+same_itself : (p : Place) → same_place p p ≡ true
+same_itself p =
+    let line : (p.line == p.line) ≡ true = grind (arith, nat_tests) in
+    let column : (p.column == p.column) ≡ true = grind (arith, nat_tests) in
+    rw (line, column) refl
 
-counted : {t : Placed} {rest c : List Placed} (place : Place) (limit fs : List CheckFault) → t.place ≡ place → AreAt t.place limit → IsStep t rest c fs → IsStep t rest c (counted_faults place limit fs)
-counted {t = t} {rest = rest} {c = c} place limit [] is here s = subst (λ faults. IsStep t rest c faults) (append-nil limit) (add_steps here s)
-counted place limit (fault ∷ fs) is here s =
-    by_choice (stands_at place fault) (λ at_it. add_step fault (there place fault at_it ∙ ap Some (sym is)) (counted place limit fs is here (drop_step fault fs s))) (add_steps here s)
+at_same : (a place : Place) → Some a ≡ Some place → same_place a place ≡ true
+at_same a place e = let is : a ≡ place = cc in rw is (same_itself place)
+
+stands_there : (place : Place) (fault : CheckFault) → place_of fault ≡ Some place → stands_at place fault ≡ true
+unfolding stands_at place_of
+stands_there place (UnknownName at) e = at_same at place e
+stands_there place (TwiceNamed at) e = at_same at place e
+stands_there place (NotAllowedHere at) e = at_same at place e
+stands_there place (WrongCount at) e = at_same at place e
+stands_there place (OutOfRange at number) e = at_same at place e
+stands_there place (TooMany at counted number) e = at_same at place e
+stands_there place NoMemory e = absurd (cc)
+
+apart : {p q : Place} → IsBefore p q → p ≡ q → ⊥
+apart (on_earlier_line a) e = let line = ap (λ x. x.line) e in omega arith
+apart (on_its_line a b) e = let column = ap (λ x. x.column) e in omega arith
+
+by_choice : (b : Bool) (xs ys : List CheckFault) → (b ≡ true → ⊥) → (if b then xs else ys) ≡ ys
+by_choice true xs ys never = absurd (never refl)
+by_choice false xs ys never = refl
+
+-- the fault of a count goes behind the faults at the first token
+counted_is : (place : Place) {most least : ℕ} (limit : List CheckFault) {fs gs : List CheckFault} → AreIn place most least fs → AreLater place gs → counted_faults place limit (fs ++ gs) ≡ (fs ++ limit) ++ gs
+counted_is place limit (in_none e) no_more_later = sym (append-nil limit)
+counted_is place limit (in_none e) (also_later {q} {fault} {rest} before stands more) =
+    by_choice (stands_at place fault) _ _ (λ here. apart before (the_place (sym (there place fault here) ∙ stands))) where
+  the_place : {x y : Place} → Some x ≡ Some y → x ≡ y
+  the_place same = cc
+counted_is place limit (in_also {fault} {rest} stands e more) later =
+    rw (stands_there place fault stands) (ap (λ faults. fault ∷ faults) (counted_is place limit more later))
 
 -- the first tokens of one list
 one_first : {a : List Placed} {t u : Placed} {r q : List Placed} → a ≡ t ∷ r → a ≡ u ∷ q → t.place ≡ u.place
-one_first {t = t} {u = u} e f = let same : t ≡ u = cc in ap (λ x. x.place) same
+one_first {t} {u} e f = let same : t ≡ u = cc in ap (λ x. x.place) same
 
-pub counted_step : {a c : List Placed} (place : Place) (limit fs : List CheckFault) → AreAt place limit → BeginsAt place a → StepsFrom a c fs → StepsFrom a c (counted_faults place limit fs)
-counted_step place limit fs here at s =
+-- an item with the count of items
+pub counted_met : {a c : List Placed} (place : Place) (limit fs : List CheckFault) → AreIn place 5 5 limit → BeginsAt place a → StepsFrom a c fs → Meets a c (counted_faults place limit fs)
+counted_met {a} {c} place limit fs here at s =
     let is = one_first s.begins at.first in
-    record { first = s.first; rest = s.rest; begins = s.begins; step = counted place limit fs is (subst (λ p. AreAt p limit) (sym is) here) s.step }
+    let at_place = subst (λ p. AreIn p 5 0 s.there) is s.here in
+    let group = subst (λ p. AreAt p (s.there ++ limit)) (sym is) (all_at (at_both at_place here)) in
+    let whole = taken s.begins group s.way in
+    record {
+      way = λ r.
+          let rising = subst IsRising s.begins r in
+          let later = subst (λ p. AreLater p s.further) is (further_later rising s.way) in
+          subst (λ faults. AreMet a c faults) (sym (ap (counted_faults place limit) s.split ∙ counted_is place limit at_place later)) (whole.way r);
+      rises = whole.rises;
+    } where
+  further_later : {t : Placed} {rest b : List Placed} {gs : List CheckFault} → IsRising (t ∷ rest) → Meets rest b gs → AreLater t.place gs
+  further_later (before_others behind rising) m = met_later behind (m.way rising)

@@ -19,9 +19,8 @@ use Rattle.fault_places.specs.Found.{Found, answer}
 use Rattle.fault_places.specs.OfExpressions.{field_faults, expression_faults, expressions_faults}
 use Rattle.fault_places.specs.OfBlocks.{Walk, walk_if_some, walk_in_turn, walk_block}
 use Rattle.fault_places.specs.OfTransactions.{own_local_faults, tstatement_steps, tblock_steps, tstatement_walk, tblock_walk}
-use Rattle.fault_places.specs.Met.{AreAt, AreMet, arrived}
 use Rattle.fault_places.proofs.Answers.{Finds, Gives, one, both, left_as, ahead, passes}
-use Rattle.fault_places.proofs.Ways.{at_both, then_way, meet, skip, skip_placed, then_last}
+use Rattle.fault_places.proofs.Ways.{AreIn, in_none, raised, Meets, none_met, at_both, then_way, meet, skip, skip_placed, then_last}
 use Rattle.fault_places.proofs.Places.{used_at, count_at, allowed_at, not_allowed_at}
 use Rattle.fault_places.proofs.Expressions.{field_finds, field_met, expression_finds, expression_met, expressions_find, expressions_met}
 use Rattle.fault_places.proofs.Blocks.{IsWalked, new_local_finds, new_local_at, no_walk, first_walk, block_walked}
@@ -78,19 +77,19 @@ module _ (t : Transaction) where
   block_walk_out b scope = ap (λ walk. walk scope) (fold_out-TBlock Walk Walk (tstatement_steps t (λ walk. walk)) tblock_steps b)
 
   -- a statement, by its layer
-  by_layer : {a b : List Placed} (s : TStmt) {k : TStmt-F TStmt TBlock} → out-TStmt s ≡ k → ((scope : Scope) → Gives (tstatement_parts t k scope) (steps_of k scope)) → ((scope : Scope) → AreMet a b (steps_of k scope).faults) → IsWalked a b (tstatement_rule t s) (tstatement_walk t s)
+  by_layer : {a b : List Placed} (s : TStmt) {k : TStmt-F TStmt TBlock} → out-TStmt s ≡ k → ((scope : Scope) → Gives (tstatement_parts t k scope) (steps_of k scope)) → ((scope : Scope) → Meets a b (steps_of k scope).faults) → IsWalked a b (tstatement_rule t s) (tstatement_walk t s)
   by_layer {a} {b} s {k} is gives met =
       let walked : (scope : Scope) → tstatement_walk t s scope ≡ steps_of k scope = λ scope. walk_out s scope ∙ ap (λ x. steps_of x scope) is in
       record {
         gives = λ scope. record { same = rule_out s scope ∙ (ap (λ x. tstatement_parts t x scope) is ∙ ((gives scope).same ∙ sym (ap answer (walked scope)))) };
-        met = λ scope. subst (λ x. AreMet a b x.faults) (sym (walked scope)) (met scope);
+        met = λ scope. subst (λ x. Meets a b x.faults) (sym (walked scope)) (met scope);
       }
 
   -- a block, by its layer
   by_block : {a b : List Placed} (x : TBlock) → IsWalked a b (tblock_parts t (out-TBlock x)) (walk_block (out-TBlock x).place (map (tstatement_walk t) (out-TBlock x).stmts)) → IsWalked a b (tblock_rule t x) (tblock_walk t x)
   by_block {a} {b} x walked = record {
     gives = λ scope. record { same = block_rule_out x scope ∙ ((walked.gives scope).same ∙ sym (ap answer (block_walk_out x scope))) };
-    met = λ scope. subst (λ y. AreMet a b y.faults) (sym (block_walk_out x scope)) (walked.met scope);
+    met = λ scope. subst (λ y. Meets a b y.faults) (sym (block_walk_out x scope)) (walked.met scope);
   }
 
   -- a local that the block assigns to
@@ -98,12 +97,12 @@ module _ (t : Transaction) where
   unfolding own_local
   own_local_finds scope at = both (one (used_as_local t.names scope at)) (one (if is_local t.outside at.name then Err (NotAllowedHere at.place) else fine))
 
-  own_local_at : (scope : Scope) (at : At) → AreAt at.place (own_local_faults t scope at)
+  own_local_at : (scope : Scope) (at : At) → AreIn at.place 5 0 (own_local_faults t scope at)
   own_local_at scope at = at_both (used_at t.names scope _ at) (not_allowed_at at.place (is_local t.outside at.name))
 
   -- the values of a `give`
-  values_met : {a b : List Placed} (scope : Scope) {es : List Expr} → SpellsValues a b es → AreMet a b (expressions_faults t.names scope es)
-  values_met scope (no_values m) = skip m arrived
+  values_met : {a b : List Placed} (scope : Scope) {es : List Expr} → SpellsValues a b es → Meets a b (expressions_faults t.names scope es)
+  values_met scope (no_values m) = skip m none_met
   values_met scope (values l m) = then_last (expressions_met t.names scope l) m
 
   mutual
@@ -124,32 +123,32 @@ module _ (t : Transaction) where
     tstmt_walked (tlet {s} {name} {e} h l n q x m) =
         by_layer s h
         (λ scope. ahead (new_local_finds t.names scope name) (ahead (expression_finds t.names scope e) (left_as (with_local name.name scope))))
-        (λ scope. skip l (meet n (new_local_at t.names scope name) (skip q (then_way (expression_met t.names scope x) (skip m arrived)))))
+        (λ scope. skip l (meet n (new_local_at t.names scope name) (skip q (then_way (expression_met t.names scope x) (skip m none_met)))))
     tstmt_walked (tlet_new {s} {name} {kind} h l n q w k m) =
         by_layer s h
         (λ scope. ahead (new_local_finds t.names scope name) (ahead (one (used_as_kind t.names scope kind)) (left_as (with_local name.name scope))))
-        (λ scope. skip l (meet n (new_local_at t.names scope name) (skip q (skip w (meet k (used_at t.names scope _ kind) (skip m arrived))))))
+        (λ scope. skip l (meet n (new_local_at t.names scope name) (skip q (skip w (meet k (used_at t.names scope _ kind) (skip m none_met))))))
     tstmt_walked (tset {s} {name} {e} h n q x m) =
         by_layer s h
         (λ scope. ahead (own_local_finds scope name) (ahead (expression_finds t.names scope e) (left_as scope)))
-        (λ scope. meet n (own_local_at scope name) (skip q (then_way (expression_met t.names scope x) (skip m arrived))))
+        (λ scope. meet n (own_local_at scope name) (skip q (then_way (expression_met t.names scope x) (skip m none_met))))
     tstmt_walked (tset_new {s} {name} {kind} h n q w k m) =
         by_layer s h
         (λ scope. ahead (own_local_finds scope name) (ahead (one (used_as_kind t.names scope kind)) (left_as scope)))
-        (λ scope. meet n (own_local_at scope name) (skip q (skip w (meet k (used_at t.names scope _ kind) (skip m arrived)))))
+        (λ scope. meet n (own_local_at scope name) (skip q (skip w (meet k (used_at t.names scope _ kind) (skip m none_met)))))
     tstmt_walked (store {s} {f} {e} h d q x m) =
         by_layer s h
         (λ scope. ahead (field_finds t.names scope f) (ahead (expression_finds t.names scope e) (left_as scope)))
-        (λ scope. then_way (field_met t.names scope d) (skip q (then_way (expression_met t.names scope x) (skip m arrived))))
+        (λ scope. then_way (field_met t.names scope d) (skip q (then_way (expression_met t.names scope x) (skip m none_met))))
     tstmt_walked (free {s} {e} h w x m) =
         by_layer s h
         (λ scope. ahead (expression_finds t.names scope e) (left_as scope))
-        (λ scope. skip w (then_way (expression_met t.names scope x) (skip m arrived)))
+        (λ scope. skip w (then_way (expression_met t.names scope x) (skip m none_met)))
     tstmt_walked (tif {s} {e} h i x d) =
         let inside = tblock_walked d in
         by_layer s h
         (λ scope. ahead (expression_finds t.names scope e) (passes (if_some (tblock_rule t) None) (walk_if_some (tblock_walk t) None) (inside.gives scope) (λ inner. left_as inner)))
-        (λ scope. skip i (then_way (expression_met t.names scope x) (then_way (inside.met scope) arrived)))
+        (λ scope. skip i (then_way (expression_met t.names scope x) (then_way (inside.met scope) none_met)))
     tstmt_walked (tif_else {s} {e} {other} h i x d l f) =
         let inside = tblock_walked d in
         let behind = tblock_walked f in
@@ -160,11 +159,11 @@ module _ (t : Transaction) where
         let inside = tblock_walked d in
         by_layer s h
         (λ scope. ahead (expression_finds t.names scope e) (passes (λ inner. Ok (closed scope inner)) _ (inside.gives (looping scope)) (λ inner. left_as (closed scope inner))))
-        (λ scope. skip w (then_way (expression_met t.names scope x) (then_way (inside.met (looping scope)) arrived)))
+        (λ scope. skip w (then_way (expression_met t.names scope x) (then_way (inside.met (looping scope)) none_met)))
     tstmt_walked (tbreak {s} {place} h w m) =
-        by_layer s h (λ scope. ahead (one (allowed place scope.in_loop)) (left_as scope)) (λ scope. meet w (allowed_at place scope.in_loop) (skip m arrived))
-    tstmt_walked (abort {s} h w m) = by_layer s h (λ scope. left_as scope) (λ scope. skip_placed w (skip m arrived))
+        by_layer s h (λ scope. ahead (one (allowed place scope.in_loop)) (left_as scope)) (λ scope. meet w (allowed_at place scope.in_loop) (skip m none_met))
+    tstmt_walked (abort {s} h w m) = by_layer s h (λ scope. left_as scope) (λ scope. skip_placed w (skip m none_met))
     tstmt_walked (tgive {s} {place} {es} h w v) =
         by_layer s h
         (λ scope. ahead (one (same_count place t.given (length es))) (ahead (expressions_find t.names scope es) (left_as scope)))
-        (λ scope. meet w (count_at place t.given (length es)) (then_way (values_met scope v) arrived))
+        (λ scope. meet w (count_at place t.given (length es)) (then_way (values_met scope v) none_met))

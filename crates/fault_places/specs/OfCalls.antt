@@ -1,5 +1,5 @@
 -- The faults of calls and of the names that take their results.
-use Rattle.std.specs.Prelude.{ℕ, ◌+◌, Bool, if◌then◌else◌, List, [], ◌∷◌, ◌++◌, length, Err}
+use Rattle.std.specs.Prelude.{ℕ, ◌+◌, Bool, if◌then◌else◌, List, [], ◌∷◌, ◌++◌, length, is_some, Err}
 use Rattle.thread_tree.specs.declared.place.Place.{Place}
 use Rattle.thread_tree.specs.declared.place.At.{At}
 use Rattle.thread_tree.specs.declared.action.Call.{Call}
@@ -13,15 +13,17 @@ use Rattle.thread_check.specs.declared.fault.CheckFault.{CheckFault}
 use Rattle.thread_check.specs.declared.fault.CheckFault.TheVariants.{WrongCount}
 use Rattle.thread_check.specs.Verdict.{fine, same_count, within_limit, stands_at}
 use Rattle.thread_check.specs.Scope.{Scope}
-use Rattle.thread_check.specs.Names.{Names, arity}
+use Rattle.thread_check.specs.Names.{Names, sort_of, arity}
 use Rattle.thread_check.specs.Calls.{once}
 use Rattle.fault_places.specs.Sorts.{used_as_local, used_as_queue, used_as_semaphore, used_as_thread}
 use Rattle.fault_places.specs.Found.{found_by}
 use Rattle.fault_places.specs.OfExpressions.{expression_faults, expressions_faults}
 
--- of a name after `->` behind these
+-- of a name after `->` behind these, in the order of the table: where it is in scope, that it stands twice comes first
 abbrev pub further_taker_faults : Names → Scope → List At → At → List CheckFault
-further_taker_faults names scope before at = found_by (used_as_local names scope at) ++ found_by (once before at)
+further_taker_faults names scope before at =
+    if is_some (sort_of names scope at.name) then found_by (once before at) ++ found_by (used_as_local names scope at)
+    else found_by (used_as_local names scope at) ++ found_by (once before at)
 
 -- of names after `->` behind these
 abbrev pub further_takers_faults : Names → Scope → List At → List At → List CheckFault

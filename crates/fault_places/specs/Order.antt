@@ -10,11 +10,6 @@ pub data IsBefore (p q : Place) : Type 0 where
   on_earlier_line : p.line < q.line → IsBefore p q
   on_its_line : p.line ≡ q.line → p.column < q.column → IsBefore p q
 
--- a place stands before another, or is it
-pub data IsAtOrBefore (p q : Place) : Type 0 where
-  on_line_before : p.line < q.line → IsAtOrBefore p q
-  on_same_line : p.line ≡ q.line → p.column ≤ q.column → IsAtOrBefore p q
-
 -- each of these tokens stands behind a place
 pub data AreBehind (place : Place) : List Placed → Type 0 where
   no_more_behind : AreBehind place []
@@ -35,18 +30,27 @@ place_of (OutOfRange at number) = Some at
 place_of (TooMany at counted number) = Some at
 place_of NoMemory = None
 
--- a fault that stands at a place or behind it
-pub record StandsFrom (place : Place) (fault : CheckFault) : Type 0 where
-  pub where_it_stands : Place
-  pub stands : place_of fault ≡ Some where_it_stands
-  pub not_before : IsAtOrBefore place where_it_stands
+-- the place of a fault in the table, which decides at one place of a text
+unfoldable pub rank_of : CheckFault → ℕ
+rank_of (UnknownName at) = 0
+rank_of (TwiceNamed at) = 1
+rank_of (NotAllowedHere at) = 2
+rank_of (WrongCount at) = 3
+rank_of (OutOfRange at number) = 4
+rank_of (TooMany at counted number) = 5
+rank_of NoMemory = 6
 
--- each of these faults stands at a place or behind it
-pub data AllStandFrom (place : Place) : List CheckFault → Type 0 where
-  no_more_from : AllStandFrom place []
-  also_from : {fault : CheckFault} {rest : List CheckFault} → StandsFrom place fault → AllStandFrom place rest → AllStandFrom place (fault ∷ rest)
+-- a fault comes no later than another: it stands before it, or at the same place and not behind it in the table
+pub data ComesNoLater (fault other : CheckFault) : Type 0 where
+  stands_before : {p q : Place} → place_of fault ≡ Some p → place_of other ≡ Some q → IsBefore p q → ComesNoLater fault other
+  first_in_table : {p : Place} → place_of fault ≡ Some p → place_of other ≡ Some p → rank_of fault ≤ rank_of other → ComesNoLater fault other
 
--- no fault stands before one that comes earlier in this list
-pub data NeverFalls : List CheckFault → Type 0 where
-  no_more_faults : NeverFalls []
-  not_behind_others : {place : Place} {fault : CheckFault} {rest : List CheckFault} → place_of fault ≡ Some place → AllStandFrom place rest → NeverFalls rest → NeverFalls (fault ∷ rest)
+-- a fault comes no later than each of these
+pub data ComesFirst (fault : CheckFault) : List CheckFault → Type 0 where
+  before_none : ComesFirst fault []
+  before_one : {other : CheckFault} {rest : List CheckFault} → ComesNoLater fault other → ComesFirst fault rest → ComesFirst fault (other ∷ rest)
+
+-- each of these faults comes no later than those behind it
+pub data AreInOrder : List CheckFault → Type 0 where
+  no_more_faults : AreInOrder []
+  in_order : {fault : CheckFault} {rest : List CheckFault} → ComesFirst fault rest → AreInOrder rest → AreInOrder (fault ∷ rest)

@@ -8,7 +8,7 @@ ghost use Rattle.thread_tokens.specs.Scan.{scan_of};
 ghost use Rattle.thread_check.specs.declared.fault.CheckFault.{CheckFault};
 ghost use Rattle.thread_check.specs.Names.{Names};
 ghost use Rattle.thread_check.specs.Faults.{fault_of};
-ghost use Rattle.fault_places.specs.Order.{IsRising, NeverFalls};
+ghost use Rattle.fault_places.specs.Order.{IsRising, AreInOrder};
 ghost use Rattle.fault_places.specs.Met.{AreMet};
 ghost use Rattle.fault_places.specs.Found.{first_of};
 ghost use Rattle.fault_places.specs.OfDeclarations.{declaration_walk, faults_of};
@@ -17,12 +17,12 @@ ghost use Rattle.fault_places.specs.Earliest.{IsEarliest};
 /// Tokens, and the faults of what they spell, come in order of their places.
 ///
 /// `declaration` holds whatever names are in scope and whatever was counted before.
-#[tactic(auto, using(crate::proofs::Scanning::text_rises, crate::proofs::FirstFault::one_declaration_met, crate::proofs::FirstFault::faults_met, crate::proofs::FirstFault::faults_never_fall))]
+#[tactic(auto, using(crate::proofs::Scanning::text_rises, crate::proofs::FirstFault::one_declaration_met, crate::proofs::FirstFault::faults_met, crate::proofs::FirstFault::faults_in_order))]
 pub fn rising()
     ensures tokens { (text : List ℕ) → IsRising (scan_of text).tokens }
-    ensures declaration { (before after : List Placed) (d : Decl) (names : Names) (loops : ℕ) → SpellsDecl before after d → AreMet before after (declaration_walk names loops d).faults }
-    ensures program { (tokens : List Placed) (tree : Tree) → SpellsProgram tokens tree.decls → AreMet tokens [] (faults_of tree) }
-    ensures faults { (text : List ℕ) (tree : Tree) → SpellsProgram (scan_of text).tokens tree.decls → NeverFalls (faults_of tree) }
+    ensures declaration { (before after : List Placed) (d : Decl) (names : Names) (loops : ℕ) → SpellsDecl before after d → IsRising before → AreMet before after (declaration_walk names loops d).faults }
+    ensures program { (tokens : List Placed) (tree : Tree) → SpellsProgram tokens tree.decls → IsRising tokens → AreMet tokens [] (faults_of tree) }
+    ensures faults { (text : List ℕ) (tree : Tree) → SpellsProgram (scan_of text).tokens tree.decls → AreInOrder (faults_of tree) }
 {}
 
 /// The fault that is answered is one of all the faults of the program, and none of them stands before it.
