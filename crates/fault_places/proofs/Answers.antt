@@ -1,5 +1,5 @@
 -- The answer of rules of which the first fault counts, from all the faults that they find.
-use Rattle.std.proofs.Common.{◌≡◌, Bool, true, false, cond, if◌then◌else◌, List, [], ◌∷◌, ◌++◌, Option, Some, None, Ok, Err, refl, sym, ap, ap₂, ◌∙◌}
+use Rattle.std.proofs.Common.{◌≡◌, Bool, true, false, if◌then◌else◌, List, [], ◌∷◌, ◌++◌, Ok, Err, refl, ap, ap₂, ◌∙◌}
 use Rattle.thread_check.specs.declared.fault.CheckFault.{CheckFault}
 use Rattle.thread_check.specs.Verdict.{Verdict, Answer, fine, ◌>>=◌, ◌>>◌}
 use Rattle.thread_check.specs.Faults.{fault_in}

@@ -1,5 +1,5 @@
 -- Rules and walks that go together, and those of blocks.
-use Rattle.std.proofs.Common.{◌≡◌, ◌+◌, List, [], ◌∷◌, ◌++◌, length, Ok, refl, arith}
+use Rattle.std.proofs.Common.{◌+◌, List, [], ◌∷◌, length, Ok}
 use Rattle.thread_tree.specs.declared.place.Place.{Place}
 use Rattle.thread_tree.specs.declared.place.At.{At}
 use Rattle.thread_tree.specs.declared.token.Mark.TheVariants as mark
@@ -7,14 +7,13 @@ use Rattle.thread_tree.specs.declared.token.Placed.{Placed}
 use Rattle.thread_tree.specs.declared.token.Token.{Token}
 use Rattle.thread_tree.specs.Spelling.{Takes, TakesMark}
 use Rattle.thread_check.specs.declared.fault.Kind.TheVariants as kind
-use Rattle.thread_check.specs.Scope.{Scope, looping, opened, closed, room_for_local, room_for_block}
+use Rattle.thread_check.specs.Scope.{Scope, opened, closed, room_for_local, room_for_block}
 use Rattle.thread_check.specs.Names.{Names}
 use Rattle.thread_check.specs.Uses.{fresh}
 use Rattle.thread_check.specs.Blocks.{Rule, new_local, in_turn, block_of}
-use Rattle.fault_places.specs.Found.{found_by}
 use Rattle.fault_places.specs.OfBlocks.{Walk, new_local_faults, walk_in_turn, walk_block}
 use Rattle.fault_places.proofs.Answers.{Finds, Gives, one, both, left_as, ahead, passes}
-use Rattle.fault_places.proofs.Ways.{AreIn, in_none, raised, Meets, none_met, at_both, then_way, meet, skip}
+use Rattle.fault_places.proofs.Ways.{AreIn, Meets, none_met, at_both, then_way, meet, skip}
 use Rattle.fault_places.proofs.Places.{fresh_at, limit_at}
 
 -- the walk gives the rule's answer, and its faults are met along the tokens

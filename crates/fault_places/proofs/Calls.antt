@@ -1,5 +1,5 @@
 -- The faults of calls: the first of them, and where they are met.
-use Rattle.std.proofs.Common.{◌≡◌, ℕ, ◌+◌, ◌==◌, ◌&&◌, ◌||◌, arith, Bool, true, false, cond, if◌then◌else◌, List, [], ◌∷◌, ◌++◌, length, Option, Some, None, is_some, Ok, Err, refl, sym, ap, subst, ◌∙◌}
+use Rattle.std.proofs.Common.{◌≡◌, ℕ, ◌+◌, ◌==◌, ◌||◌, arith, Bool, true, false, if◌then◌else◌, List, [], ◌∷◌, ◌++◌, length, Option, Some, None, is_some, Ok, Err, refl, sym, ap, subst, ◌∙◌}
 use Rattle.std.proofs.lemmas.Bool.Decides.{nat_tests}
 use Rattle.thread_tree.specs.declared.place.Place.{Place}
 use Rattle.thread_tree.specs.declared.place.At.{At}
@@ -11,11 +11,11 @@ use Rattle.thread_tree.specs.declared.action.Who.{Who}
 use Rattle.thread_tree.specs.declared.action.Who.TheVariants as who
 use Rattle.thread_tree.specs.declared.token.Placed.{Placed}
 use Rattle.thread_tree.specs.Spelling.{SpellsNames, Separated, one as one_thing, more}
-use Rattle.thread_tree.specs.SpellingOfCalls.{BeginsAt, SpellsItem, text, value, SpellsWho, own, of, SpellsArguments, no_arguments, arguments, SpellsResults, no_results, results, SpellsCall, print, spawn, delete, delay, setprio, getprio, send, receive, take, give, now, yield, waiting}
+use Rattle.thread_tree.specs.SpellingOfCalls.{SpellsItem, text, value, SpellsWho, own, of, SpellsArguments, no_arguments, arguments, SpellsResults, no_results, results, SpellsCall, print, spawn, delete, delay, setprio, getprio, send, receive, take, give, now, yield, waiting}
 use Rattle.thread_check.specs.declared.fault.Kind.TheVariants as kind
 use Rattle.thread_check.specs.declared.fault.CheckFault.{CheckFault}
-use Rattle.thread_check.specs.declared.fault.CheckFault.TheVariants.{UnknownName, TwiceNamed, NotAllowedHere, WrongCount, OutOfRange, TooMany, NoMemory}
-use Rattle.thread_check.specs.Verdict.{Verdict, fine, ◌>>◌, same_count, within_limit, same_place, stands_at}
+use Rattle.thread_check.specs.declared.fault.CheckFault.TheVariants.{NotAllowedHere, WrongCount}
+use Rattle.thread_check.specs.Verdict.{Verdict, fine, ◌>>◌, same_count, within_limit, stands_at}
 use Rattle.thread_check.specs.Scope.{Scope}
 use Rattle.thread_check.specs.Names.{Names, sort_of_declaration, sort_of, arity, is_among}
 use Rattle.thread_check.specs.Uses.{same_sort, fitting, used}
@@ -24,9 +24,9 @@ use Rattle.fault_places.specs.Order.{place_of, rank_of}
 use Rattle.fault_places.specs.Sorts.{used_as_local, used_as_queue, used_as_semaphore, used_as_thread}
 use Rattle.fault_places.specs.Found.{found_by}
 use Rattle.fault_places.specs.OfExpressions.{expression_faults, expressions_faults}
-use Rattle.fault_places.specs.OfCalls.{further_taker_faults, further_takers_faults, first_taker_faults, takers_faults, who_faults, counted_faults, item_faults, items_faults, spawned_faults, call_faults}
+use Rattle.fault_places.specs.OfCalls.{further_taker_faults, further_takers_faults, first_taker_faults, takers_faults, who_faults, counted_faults, item_faults, items_faults, call_faults}
 use Rattle.fault_places.proofs.Answers.{Finds, verdict_of, one, none, both, joined_finds, both_if, joined_if, first_fine, second_fine, fine_first}
-use Rattle.fault_places.proofs.Ways.{AreIn, in_none, in_also, raised, found_at, if_not, Meets, none_met, at_both, then_way, meet, meet_last, skip, skip_placed, then_last}
+use Rattle.fault_places.proofs.Ways.{AreIn, in_also, raised, found_at, if_not, Meets, none_met, at_both, then_way, meet, meet_last, skip, skip_placed, then_last}
 use Rattle.fault_places.proofs.Steps.{counted_met}
 use Rattle.fault_places.proofs.Places.{used_at, once_at, count_at, limit_at, wrong_count_at}
 use Rattle.fault_places.proofs.Expressions.{expression_finds, expression_met, expression_steps, expressions_find, expressions_met}

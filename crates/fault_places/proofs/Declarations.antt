@@ -1,11 +1,10 @@
 -- The faults of declarations: the first of them, and where they are met.
-use Rattle.std.proofs.Common.{◌≡◌, ℕ, ◌+◌, true, if◌then◌else◌, List, [], ◌∷◌, ◌++◌, length, Option, Some, None, Ok, Err, refl, arith}
+use Rattle.std.proofs.Common.{ℕ, ◌+◌, true, if◌then◌else◌, List, [], ◌∷◌, ◌++◌, length, Option, Some, None, Err, arith}
 use Rattle.thread_tree.specs.declared.place.At.{At}
 use Rattle.thread_tree.specs.declared.place.Num.{Num}
 use Rattle.thread_tree.specs.declared.token.Placed.{Placed}
 use Rattle.thread_tree.specs.declared.tree.Decl.{Decl}
 use Rattle.thread_tree.specs.declared.tree.Decl.TheVariants as decl
-use Rattle.thread_tree.specs.declared.block.Block.{Block}
 use Rattle.thread_tree.specs.Spelling.{SpellsNames, SpellsNumber, Separated, one as one_thing, more}
 use Rattle.thread_tree.specs.SpellingOfDeclarations.{SpellsParameters, no_parameters, parameters, SpellsNumbers, no_numbers, numbers, SpellsChannel, no_channel, channel, SpellsDecl, kind, object, queue, semaphore, function, thread, start, SpellsDecls, no_decls, decls}
 use Rattle.thread_check.specs.declared.fault.Kind.{Kind}
@@ -22,9 +21,8 @@ use Rattle.fault_places.specs.Sorts.{used_as_kind, used_as_thread}
 use Rattle.fault_places.specs.OfDeclarations.{declared_faults, field_declared_faults, fields_faults, channel_faults, parameter_faults, parameters_walk, declaration_walk, declarations_walk}
 use Rattle.fault_places.specs.OfStatements.{block_walk}
 use Rattle.fault_places.proofs.Answers.{Finds, Gives, one, none, both, left_as, ahead, passes, joined}
-use Rattle.fault_places.proofs.Ways.{AreIn, in_none, raised, Meets, none_met, at_both, then_way, meet, meet_last, skip, skip_placed, then_last}
+use Rattle.fault_places.proofs.Ways.{AreIn, raised, Meets, none_met, at_both, then_way, meet, meet_last, skip, skip_placed, then_last}
 use Rattle.fault_places.proofs.Places.{used_at, fresh_at, once_at, count_at, range_at, limit_at, twice_at}
-use Rattle.fault_places.proofs.Blocks.{IsWalked}
 use Rattle.fault_places.proofs.Statements.{block_of_body_walked}
 
 -- the fields of a type

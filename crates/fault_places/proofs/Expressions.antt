@@ -1,5 +1,5 @@
 -- The faults of expressions: the first of them, and where they are met.
-use Rattle.std.proofs.Common.{◌≡◌, ℕ, Bool, List, [], ◌∷◌, ◌++◌, refl, arith}
+use Rattle.std.proofs.Common.{ℕ, Bool, List, [], ◌∷◌, arith}
 use Rattle.thread_tree.specs.declared.expr.Expr.{Expr}
 use Rattle.thread_tree.specs.declared.expr.Expr.TheVariants as expr
 use Rattle.thread_tree.specs.declared.expr.FieldOf.{FieldOf}
@@ -8,13 +8,11 @@ use Rattle.thread_tree.specs.declared.token.Placed.{Placed}
 use Rattle.thread_tree.specs.Spelling.{SpellsField, static, through, SpellsLevel, number, local, member, parenthesised, prefixed, binary, tighter, SpellsExpr, Separated, one as one_thing, more}
 use Rattle.thread_check.specs.Scope.{Scope}
 use Rattle.thread_check.specs.Names.{Names, sort_of_declaration, has_field, object_has_field}
-use Rattle.thread_check.specs.Uses.{used}
 use Rattle.thread_check.specs.Expressions.{known, field_rule, expression, expressions}
 use Rattle.fault_places.specs.Sorts.{used_as_local, used_as_kind, used_as_object}
-use Rattle.fault_places.specs.Found.{found_by}
 use Rattle.fault_places.specs.OfExpressions.{field_faults, expression_faults, expressions_faults}
 use Rattle.fault_places.proofs.Answers.{Finds, one, none, both}
-use Rattle.fault_places.proofs.Ways.{AreIn, in_none, raised, Meets, none_met, then_way, meet, meet_last, skip, then_last}
+use Rattle.fault_places.proofs.Ways.{in_none, Meets, none_met, then_way, meet, meet_last, skip, then_last}
 use Rattle.fault_places.proofs.Steps.{StepsFrom, over, first_step, last_step, step_then}
 use Rattle.fault_places.proofs.Places.{used_at, known_at}
 

@@ -1,15 +1,16 @@
 -- The first fault of a program is the earliest.
-use Rattle.std.proofs.Common.{◌≡◌, ℕ, ◌≤◌, List, [], ◌∷◌, ◌++◌, Option, Some, None, refl, sym, ap, subst, arith, ◌∙◌}
+use Rattle.std.proofs.Common.{◌≡◌, ℕ, List, [], ◌∷◌, ◌++◌, Some, None, refl, sym, ap, subst, arith, ◌∙◌}
 use Rattle.thread_tree.specs.declared.place.Place.{Place}
 use Rattle.thread_tree.specs.declared.token.Placed.{Placed}
 use Rattle.thread_tree.specs.declared.tree.Tree.{Tree}
 use Rattle.thread_tree.specs.SpellingOfDeclarations.{SpellsDecl, SpellsProgram}
 use Rattle.thread_tree.specs.declared.tree.Decl.{Decl}
-use Rattle.thread_tokens.specs.Scan.{Scan, scan_of}
+use Rattle.thread_tokens.specs.Scan.{scan_of}
 use Rattle.thread_check.specs.declared.fault.CheckFault.{CheckFault}
+use Rattle.thread_check.specs.declared.fault.CheckFault.TheVariants.{UnknownName, TwiceNamed, NotAllowedHere, WrongCount, OutOfRange, TooMany, NoMemory}
 use Rattle.thread_check.specs.Names.{Names}
-use Rattle.thread_check.specs.Faults.{no_names, fault_of}
-use Rattle.fault_places.specs.Order.{IsRising, before_others, place_of, rank_of, ComesNoLater, stands_before, first_in_table, ComesFirst, before_none, before_one, AreInOrder, no_more_faults, in_order}
+use Rattle.thread_check.specs.Faults.{no_names, fault_of, IsTold}
+use Rattle.fault_places.specs.Order.{IsRising, before_others, place_of, stands_before, first_in_table, ComesFirst, before_none, before_one, AreInOrder, no_more_faults, in_order}
 use Rattle.fault_places.specs.Met.{AreAt, no_more_at, also_at, AreMet, arrived, at_token}
 use Rattle.fault_places.specs.Found.{first_of}
 use Rattle.fault_places.specs.OfDeclarations.{declaration_walk, faults_of}
@@ -88,3 +89,22 @@ earliest_fault text tree fault spelled found =
 -- the faults of a text's program are in order
 pub faults_in_order : (text : List ℕ) (tree : Tree) → SpellsProgram (scan_of text).tokens tree.decls → AreInOrder (faults_of tree)
 faults_in_order text tree spelled = met_in_order (text_rises text) (faults_met _ tree spelled (text_rises text))
+
+-- what is told of a program, and stands somewhere, is its earliest fault
+pub told_fault : (text : List ℕ) (tree : Tree) (fault : CheckFault) (place : Place) → SpellsProgram (scan_of text).tokens tree.decls → IsTold (fault_of tree) fault → place_of fault ≡ Some place → IsEarliest fault (faults_of tree)
+unfolding place_of
+told_fault text tree (UnknownName at) place spelled told stands = earliest_fault text tree (UnknownName at) spelled told
+told_fault text tree (TwiceNamed at) place spelled told stands = earliest_fault text tree (TwiceNamed at) spelled told
+told_fault text tree (NotAllowedHere at) place spelled told stands = earliest_fault text tree (NotAllowedHere at) spelled told
+told_fault text tree (WrongCount at) place spelled told stands = earliest_fault text tree (WrongCount at) spelled told
+told_fault text tree (OutOfRange at number) place spelled told stands = earliest_fault text tree (OutOfRange at number) spelled told
+told_fault text tree (TooMany at counted number) place spelled told stands = earliest_fault text tree (TooMany at counted number) spelled told
+told_fault text tree NoMemory place spelled told stands = absurd (cc)
+
+no_first : (fs : List CheckFault) → first_of fs ≡ None → fs ≡ []
+no_first [] is = refl
+no_first (fault ∷ rest) is = absurd (cc)
+
+-- a program of which no fault is told has none
+pub no_faults : (tokens : List Placed) (tree : Tree) → SpellsProgram tokens tree.decls → fault_of tree ≡ None → faults_of tree ≡ []
+no_faults tokens tree spelled none_told = no_first (faults_of tree) (sym (first_fault tokens tree spelled) ∙ none_told)

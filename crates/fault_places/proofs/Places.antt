@@ -1,16 +1,15 @@
 -- Where each rule's fault stands.
-use Rattle.std.proofs.Common.{◌≡◌, ℕ, ◌+◌, ◌==◌, ◌&&◌, nat_le, Bool, true, false, if◌then◌else◌, List, [], length, Option, Some, None, is_some, Ok, Err, refl, arith}
+use Rattle.std.proofs.Common.{ℕ, ◌==◌, ◌&&◌, nat_le, Bool, if◌then◌else◌, List, Option, Some, None, is_some, Ok, Err, refl, arith}
 use Rattle.thread_tree.specs.declared.place.Place.{Place}
 use Rattle.thread_tree.specs.declared.place.At.{At}
 use Rattle.thread_tree.specs.declared.place.Num.{Num}
-use Rattle.thread_tree.specs.declared.expr.Expr.TheVariants as expr
 use Rattle.thread_check.specs.declared.fault.Kind.{Kind}
 use Rattle.thread_check.specs.declared.fault.CheckFault.TheVariants.{UnknownName, TwiceNamed, NotAllowedHere, WrongCount, OutOfRange, TooMany}
 use Rattle.thread_check.specs.Verdict.{same_count, in_range, within_limit}
-use Rattle.thread_check.specs.Scope.{Scope, room_for_local, room_for_block}
+use Rattle.thread_check.specs.Scope.{Scope}
 use Rattle.thread_check.specs.Names.{Names, sort_of}
 use Rattle.thread_check.specs.Uses.{same_sort, fitting, used, fresh}
-use Rattle.thread_check.specs.Expressions.{known, expression}
+use Rattle.thread_check.specs.Expressions.{known}
 use Rattle.thread_check.specs.Calls.{once}
 use Rattle.thread_check.specs.Names.{is_among}
 use Rattle.thread_check.specs.Blocks.{allowed}

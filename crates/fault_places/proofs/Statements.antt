@@ -1,8 +1,7 @@
 -- The faults of bodies: the first of them, and where they are met.
-use Rattle.std.proofs.Common.{◌≡◌, ℕ, ◌+◌, ◌-◌, ◌==◌, false, nat_le, not, List, [], ◌∷◌, ◌++◌, length, map, Option, Some, None, Ok, Err, refl, sym, ap, subst, ◌∙◌}
+use Rattle.std.proofs.Common.{◌≡◌, ℕ, ◌+◌, ◌-◌, ◌==◌, false, nat_le, not, List, ◌++◌, length, map, Option, Some, None, Ok, refl, sym, ap, subst, ◌∙◌}
 use Rattle.thread_tree.specs.declared.place.At.{At}
 use Rattle.thread_tree.specs.declared.place.Place.{Place}
-use Rattle.thread_tree.specs.declared.expr.Expr.{Expr}
 use Rattle.thread_tree.specs.declared.token.Placed.{Placed}
 use Rattle.thread_tree.specs.declared.block.Block.{Block, out-Block, fold_out-Block}
 use Rattle.thread_tree.specs.declared.block.Stmt.{Stmt, out-Stmt, fold_out-Stmt, map-Stmt}
@@ -11,20 +10,19 @@ use Rattle.thread_tree.specs.declared.block.Stmt.TheOpen as stmt
 use Rattle.thread_tree.specs.Kinds.{result_count, kind_of_call}
 use Rattle.thread_tree.specs.SpellingOfBlocks.{SpellsGiven, no_given, given, SpellsBlock, block, SpellsStmts, no_stmts, stmts, SpellsStmt, let_to, set, apply_to, apply, if_only, if_else, while_loop, ploop as ploop_spelled, break_loop, return_only, return_value, atomic, call}
 use Rattle.thread_check.specs.declared.fault.Kind.TheVariants as kind
-use Rattle.thread_check.specs.Verdict.{fine, ◌>>=◌, same_count, within_limit}
+use Rattle.thread_check.specs.Verdict.{same_count, within_limit}
 use Rattle.thread_check.specs.Scope.{Scope, with_local, looping, ploop, closed, after_call}
 use Rattle.thread_check.specs.Names.{Names, sort_of_declaration, arity, peak_of}
 use Rattle.thread_check.specs.Blocks.{Rule, allowed, if_some, in_turn}
 use Rattle.thread_check.specs.Transactions.{Transaction}
 use Rattle.thread_check.specs.Statements.{taker, callee_rule, atomic_rule, statement_layer, block_layer, statement_rule, block_rule, statement_parts, block_parts}
 use Rattle.fault_places.specs.Sorts.{used_as_local, used_as_function}
-use Rattle.fault_places.specs.Found.{Found, answer, found_by}
-use Rattle.fault_places.specs.OfExpressions.{expression_faults, expressions_faults}
-use Rattle.fault_places.specs.OfCalls.{takers_faults, call_faults}
+use Rattle.fault_places.specs.Found.{answer}
+use Rattle.fault_places.specs.OfCalls.{takers_faults}
 use Rattle.fault_places.specs.OfBlocks.{Walk, walk_if_some, walk_in_turn, walk_block}
-use Rattle.fault_places.specs.OfStatements.{taker_faults, room_faults, callee_faults, ploop_faults, atomic_walk, statement_steps, block_steps, statement_walk, block_walk}
+use Rattle.fault_places.specs.OfStatements.{taker_faults, callee_faults, ploop_faults, atomic_walk, statement_steps, block_steps, statement_walk, block_walk}
 use Rattle.fault_places.proofs.Answers.{Finds, Gives, one, none, both, left_as, ahead, passes, joined_three}
-use Rattle.fault_places.proofs.Ways.{AreIn, in_none, raised, Meets, none_met, at_both, then_way, meet, skip, skip_placed, then_last}
+use Rattle.fault_places.proofs.Ways.{AreIn, Meets, none_met, at_both, then_way, meet, skip, skip_placed}
 use Rattle.fault_places.proofs.Places.{used_at, count_at, limit_at, allowed_at}
 use Rattle.fault_places.proofs.Expressions.{expression_finds, expression_met, expressions_find}
 use Rattle.fault_places.proofs.Calls.{takers_find, takers_met, results_met, arguments_met, call_finds, call_met}

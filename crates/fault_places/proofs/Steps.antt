@@ -1,5 +1,5 @@
 -- The first step of a way, over the first token, and the count of a print's items.
-use Rattle.std.proofs.Common.{◌≡◌, ℕ, ◌<◌, ◌≤◌, ◌==◌, ◌&&◌, arith, Bool, true, false, cond, if◌then◌else◌, List, [], ◌∷◌, ◌++◌, Some, append_assoc, append-nil, refl, sym, ap, ◌∙◌, subst}
+use Rattle.std.proofs.Common.{◌≡◌, ℕ, ◌==◌, ◌&&◌, arith, Bool, true, false, if◌then◌else◌, List, [], ◌∷◌, ◌++◌, Some, append_assoc, append-nil, refl, sym, ap, ◌∙◌, subst}
 use Rattle.std.proofs.lemmas.Bool.Decides.{nat_tests}
 use Rattle.thread_tree.specs.declared.place.Place.{Place}
 use Rattle.thread_tree.specs.declared.token.Placed.{Placed}
@@ -12,7 +12,7 @@ use Rattle.thread_check.specs.Verdict.{same_place, stands_at}
 use Rattle.fault_places.specs.Order.{IsBefore, on_earlier_line, on_its_line, AreBehind, also_behind, IsRising, before_others, place_of}
 use Rattle.fault_places.specs.OfCalls.{counted_faults}
 use Rattle.fault_places.specs.Met.{AreAt, no_more_at, also_at, AreMet, arrived, at_token}
-use Rattle.fault_places.proofs.Ways.{AreIn, in_none, in_also, raised, at_both, all_at, Meets, none_met, others_rise, taken, then_way}
+use Rattle.fault_places.proofs.Ways.{AreIn, in_none, in_also, raised, at_both, all_at, Meets, none_met, taken, then_way}
 
 -- a way over a first token
 pub record StepsFrom (before after : List Placed) (faults : List CheckFault) : Type 0 where
@@ -124,8 +124,8 @@ counted_is : (place : Place) {most least : ℕ} (limit : List CheckFault) {fs gs
 counted_is place limit (in_none e) no_more_later = sym (append-nil limit)
 counted_is place limit (in_none e) (also_later {q} {fault} {rest} before stands more) =
     by_choice (stands_at place fault) _ _ (λ here. apart before (the_place (sym (there place fault here) ∙ stands))) where
-  the_place : {x y : Place} → Some x ≡ Some y → x ≡ y
-  the_place same = cc
+      the_place : {x y : Place} → Some x ≡ Some y → x ≡ y
+      the_place same = cc
 counted_is place limit (in_also {fault} {rest} stands e more) later =
     rw (stands_there place fault stands) (ap (λ faults. fault ∷ faults) (counted_is place limit more later))
 
@@ -147,5 +147,5 @@ counted_met {a} {c} place limit fs here at s =
           subst (λ faults. AreMet a c faults) (sym (ap (counted_faults place limit) s.split ∙ counted_is place limit at_place later)) (whole.way r);
       rises = whole.rises;
     } where
-  further_later : {t : Placed} {rest b : List Placed} {gs : List CheckFault} → IsRising (t ∷ rest) → Meets rest b gs → AreLater t.place gs
-  further_later (before_others behind rising) m = met_later behind (m.way rising)
+      further_later : {t : Placed} {rest b : List Placed} {gs : List CheckFault} → IsRising (t ∷ rest) → Meets rest b gs → AreLater t.place gs
+      further_later (before_others behind rising) m = met_later behind (m.way rising)

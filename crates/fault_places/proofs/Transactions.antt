@@ -1,5 +1,5 @@
 -- The faults of transactions: the first of them, and where they are met.
-use Rattle.std.proofs.Common.{◌≡◌, ℕ, ◌+◌, if◌then◌else◌, List, [], ◌∷◌, ◌++◌, length, map, Option, Some, None, Ok, Err, refl, sym, ap, subst, ◌∙◌}
+use Rattle.std.proofs.Common.{◌≡◌, if◌then◌else◌, List, length, map, Some, None, Ok, Err, refl, sym, ap, subst, ◌∙◌}
 use Rattle.thread_tree.specs.declared.place.At.{At}
 use Rattle.thread_tree.specs.declared.expr.Expr.{Expr}
 use Rattle.thread_tree.specs.declared.token.Placed.{Placed}
@@ -11,16 +11,16 @@ use Rattle.thread_tree.specs.SpellingOfTransactions.{SpellsValues, no_values, va
 use Rattle.thread_check.specs.declared.fault.CheckFault.TheVariants.{NotAllowedHere}
 use Rattle.thread_check.specs.Verdict.{fine, same_count}
 use Rattle.thread_check.specs.Scope.{Scope, is_local, with_local, looping, closed}
-use Rattle.thread_check.specs.Names.{Names, sort_of_declaration}
+use Rattle.thread_check.specs.Names.{sort_of_declaration}
 use Rattle.thread_check.specs.Blocks.{Rule, allowed, if_some, in_turn}
 use Rattle.thread_check.specs.Transactions.{Transaction, own_local, tstatement_layer, tblock_layer, tstatement_rule, tblock_rule, tstatement_parts, tblock_parts}
 use Rattle.fault_places.specs.Sorts.{used_as_local, used_as_kind}
-use Rattle.fault_places.specs.Found.{Found, answer}
-use Rattle.fault_places.specs.OfExpressions.{field_faults, expression_faults, expressions_faults}
+use Rattle.fault_places.specs.Found.{answer}
+use Rattle.fault_places.specs.OfExpressions.{expressions_faults}
 use Rattle.fault_places.specs.OfBlocks.{Walk, walk_if_some, walk_in_turn, walk_block}
 use Rattle.fault_places.specs.OfTransactions.{own_local_faults, tstatement_steps, tblock_steps, tstatement_walk, tblock_walk}
 use Rattle.fault_places.proofs.Answers.{Finds, Gives, one, both, left_as, ahead, passes}
-use Rattle.fault_places.proofs.Ways.{AreIn, in_none, raised, Meets, none_met, at_both, then_way, meet, skip, skip_placed, then_last}
+use Rattle.fault_places.proofs.Ways.{AreIn, Meets, none_met, at_both, then_way, meet, skip, skip_placed, then_last}
 use Rattle.fault_places.proofs.Places.{used_at, count_at, allowed_at, not_allowed_at}
 use Rattle.fault_places.proofs.Expressions.{field_finds, field_met, expression_finds, expression_met, expressions_find, expressions_met}
 use Rattle.fault_places.proofs.Blocks.{IsWalked, new_local_finds, new_local_at, no_walk, first_walk, block_walked}

@@ -1,12 +1,12 @@
 -- Ways along the tokens, one behind another.
-use Rattle.std.proofs.Common.{◌≡◌, ℕ, ◌≤◌, Bool, true, false, if◌then◌else◌, List, [], ◌∷◌, ◌++◌, Option, Some, None, Ok, Err, append_assoc, append-nil, subst, refl, sym, ap, arith, ◌∙◌}
+use Rattle.std.proofs.Common.{◌≡◌, ℕ, ◌≤◌, Bool, true, false, if◌then◌else◌, List, [], ◌∷◌, ◌++◌, Some, Ok, Err, append_assoc, append-nil, subst, refl, sym, ap, arith, ◌∙◌}
 use Rattle.thread_tree.specs.declared.place.Place.{Place}
 use Rattle.thread_tree.specs.declared.token.Placed.{Placed}
 use Rattle.thread_tree.specs.declared.token.Token.{Token}
 use Rattle.thread_tree.specs.Spelling.{Takes, TakesAny}
 use Rattle.thread_check.specs.declared.fault.CheckFault.{CheckFault}
 use Rattle.thread_check.specs.Verdict.{Verdict, fine}
-use Rattle.fault_places.specs.Order.{IsRising, before_others, place_of, rank_of, ComesNoLater, first_in_table, ComesFirst, before_none, before_one}
+use Rattle.fault_places.specs.Order.{IsRising, before_others, place_of, rank_of, first_in_table, ComesFirst, before_none, before_one}
 use Rattle.fault_places.specs.Met.{AreAt, no_more_at, also_at, AreMet, arrived, at_token}
 use Rattle.fault_places.specs.Found.{found_by}
 

@@ -19,30 +19,30 @@ use Rattle.fault_places.specs.Sorts.{used_as_local, used_as_queue, used_as_semap
 use Rattle.fault_places.specs.Found.{found_by}
 use Rattle.fault_places.specs.OfExpressions.{expression_faults, expressions_faults}
 
--- of a name after `->` behind these, in the order of the table: where it is in scope, that it stands twice comes first
+-- the faults of a name after `->` behind these, in the order of the table: where it is in scope, that it stands twice comes first
 abbrev pub further_taker_faults : Names → Scope → List At → At → List CheckFault
 further_taker_faults names scope before at =
     if is_some (sort_of names scope at.name) then found_by (once before at) ++ found_by (used_as_local names scope at)
     else found_by (used_as_local names scope at) ++ found_by (once before at)
 
--- of names after `->` behind these
+-- the faults of names after `->` behind these
 abbrev pub further_takers_faults : Names → Scope → List At → List At → List CheckFault
 further_takers_faults names scope before [] = []
 further_takers_faults names scope before (at ∷ ats) =
     further_taker_faults names scope before at ++ further_takers_faults names scope (before ++ at ∷ []) ats
 
--- of a first name after `->`, which shows whether the names are as many as the results
+-- the faults of a first name after `->`, which shows whether the names are as many as the results
 abbrev pub first_taker_faults : Names → Scope → Bool → At → List CheckFault
 first_taker_faults names scope fits at =
     found_by (used_as_local names scope at) ++ found_by (if fits then fine else Err (WrongCount at.place))
 
--- of the names after `->`
+-- the faults of the names after `->`
 abbrev pub takers_faults : Names → Scope → Bool → List At → List CheckFault
 takers_faults names scope fits [] = []
 takers_faults names scope fits (at ∷ ats) =
     first_taker_faults names scope fits at ++ further_takers_faults names scope (at ∷ []) ats
 
--- of the thread that a call speaks of
+-- the faults of the thread that a call speaks of
 unfoldable pub who_faults : Names → Scope → Who → List CheckFault
 who_faults names scope who.Own = []
 who_faults names scope (who.Of e) = expression_faults names scope e
@@ -53,23 +53,23 @@ counted_faults place limit [] = limit
 counted_faults place limit (fault ∷ rest) =
     if stands_at place fault then fault ∷ counted_faults place limit rest else limit ++ fault ∷ rest
 
--- of an item of a print, which is the one of this count
+-- the faults of an item of a print, which is the one of this count
 unfoldable pub item_faults : Names → Scope → ℕ → Item → List CheckFault
 item_faults names scope count (item.Text place text) = found_by (within_limit place kind.Items 8 count)
 item_faults names scope count (item.Value place e) =
     counted_faults place (found_by (within_limit place kind.Items 8 count)) (expression_faults names scope e)
 
--- of the items of a print behind so many
+-- the faults of the items of a print behind so many
 abbrev pub items_faults : Names → Scope → ℕ → List Item → List CheckFault
 items_faults names scope before [] = []
 items_faults names scope before (i ∷ is) = item_faults names scope (before + 1) i ++ items_faults names scope (before + 1) is
 
--- of a callee's name with so many arguments
+-- the faults of a callee's name with so many arguments
 abbrev pub spawned_faults : Names → Scope → At → ℕ → List CheckFault
 spawned_faults names scope thread count =
     found_by (used_as_thread names scope thread) ++ found_by (same_count thread.place (arity names thread.name) count)
 
--- of a call without the names that take its results
+-- the faults of a call without the names that take its results
 unfoldable pub call_faults : Names → Scope → Call → List CheckFault
 call_faults names scope (call.Print items) = items_faults names scope 0 items
 call_faults names scope (call.Spawn thread arguments) =

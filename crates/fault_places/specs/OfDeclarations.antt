@@ -22,44 +22,44 @@ use Rattle.fault_places.specs.Found.{Found, leaves, found_by, ◌+>◌, ◌+>=�
 use Rattle.fault_places.specs.OfBlocks.{Walk}
 use Rattle.fault_places.specs.OfStatements.{block_walk}
 
--- of the name of a declaration, of whose sort there may be so many
+-- the faults of the name of a declaration, of whose sort there may be so many
 abbrev pub declared_faults : Names → Decl → Kind → ℕ → At → List CheckFault
 declared_faults names d counted limit at =
     found_by (fresh names (no_scope 0) at)
     ++ found_by (within_limit at.place counted limit (count_of (sort_of_declaration d) names.declarations + 1))
 
--- of a field behind these
+-- the faults of a field behind these
 abbrev pub field_declared_faults : List At → At → List CheckFault
 field_declared_faults before at = found_by (once before at) ++ found_by (within_limit at.place kind.Fields 10 (length before + 1))
 
--- of the fields of a type behind these
+-- the faults of the fields of a type behind these
 abbrev pub fields_faults : List At → List At → List CheckFault
 fields_faults before [] = []
 fields_faults before (at ∷ ats) = field_declared_faults before at ++ fields_faults (before ++ at ∷ []) ats
 
--- of the input channel of a queue
+-- the faults of the input channel of a queue
 unfoldable pub channel_faults : Names → Option Num → List CheckFault
 channel_faults names None = []
 channel_faults names (Some number) =
     found_by (if is_taken number.value names.declarations then Err (TwiceNamed number.place) else fine)
     ++ found_by (in_range number 0 15)
 
--- of a parameter
+-- the faults of a parameter
 abbrev pub parameter_faults : Names → Scope → At → List CheckFault
 parameter_faults names scope at =
     found_by (fresh names scope at) ++ found_by (within_limit at.place kind.Parameters 8 (length scope.locals + 1))
 
--- of parameters
+-- the faults of parameters
 abbrev pub parameters_walk : Names → List At → Walk
 parameters_walk names [] scope = leaves scope
 parameters_walk names (at ∷ ats) scope = parameter_faults names scope at +> parameters_walk names ats (with_local at.name scope)
 
--- of the parameters, the priority and the body of a thread
+-- the faults of the parameters, the priority and the body of a thread
 abbrev pub thread_body_walk : Names → List At → Num → Block → Walk
 thread_body_walk names parameters priority body scope =
     parameters_walk names parameters scope +>= λ start. found_by (in_range priority 0 7) +> block_walk names body start
 
--- of a declaration behind so many persistent loops
+-- the faults of a declaration behind so many persistent loops
 unfoldable pub declaration_walk : Names → ℕ → Decl → Found Scope
 declaration_walk names loops (decl.Kind name fields) =
     declared_faults names (decl.Kind name fields) kind.Types 32 name +> fields_faults [] fields +> leaves (no_scope loops)
@@ -89,7 +89,7 @@ declaration_walk names loops (decl.Start place name numbers) =
     +> (found_by (used_as_thread names (no_scope loops) name) ++ found_by (same_count name.place (arity names name.name) (length numbers)))
     +> leaves (no_scope loops)
 
--- of declarations one after another, behind so many persistent loops
+-- the faults of declarations one after another, behind so many persistent loops
 abbrev pub declarations_walk : Names → ℕ → List Decl → Found ℕ
 declarations_walk names loops [] = leaves loops
 declarations_walk names loops (d ∷ ds) =

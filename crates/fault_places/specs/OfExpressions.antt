@@ -11,7 +11,7 @@ use Rattle.thread_check.specs.Expressions.{known}
 use Rattle.fault_places.specs.Sorts.{used_as_kind, used_as_local, used_as_object}
 use Rattle.fault_places.specs.Found.{found_by}
 
--- of a field
+-- the faults of a field
 unfoldable pub field_faults : Names → Scope → FieldOf → List CheckFault
 field_faults names scope (field.Static object name) =
     found_by (used_as_object names scope object) ++ found_by (known name (object_has_field names object.name name.name))
@@ -19,7 +19,7 @@ field_faults names scope (field.Through local kind name) =
     found_by (used_as_local names scope local)
     ++ (found_by (used_as_kind names scope kind) ++ found_by (known name (has_field names kind.name name.name)))
 
--- of an expression
+-- the faults of an expression
 abbrev pub expression_faults : Names → Scope → Expr → List CheckFault
 expression_faults names scope (expr.Num value) = []
 expression_faults names scope (expr.Local at) = found_by (used_as_local names scope at)
@@ -27,7 +27,7 @@ expression_faults names scope (expr.Field f) = field_faults names scope f
 expression_faults names scope (expr.Prefix' op p e) = expression_faults names scope e
 expression_faults names scope (expr.Binary' op p x q y) = expression_faults names scope x ++ expression_faults names scope y
 
--- of expressions from left to right
+-- the faults of expressions from left to right
 abbrev pub expressions_faults : Names → Scope → List Expr → List CheckFault
 expressions_faults names scope [] = []
 expressions_faults names scope (e ∷ es) = expression_faults names scope e ++ expressions_faults names scope es

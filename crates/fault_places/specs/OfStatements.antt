@@ -1,5 +1,5 @@
 -- The faults of the statements of a body.
-use Rattle.std.specs.Prelude.{ℕ, ◌+◌, ◌-◌, ◌==◌, nat_le, not, List, [], ◌∷◌, ◌++◌, length, map, Option, Some, None, false}
+use Rattle.std.specs.Prelude.{ℕ, ◌+◌, ◌-◌, ◌==◌, nat_le, not, List, [], ◌++◌, length, Option, Some, None, false}
 use Rattle.thread_tree.specs.declared.place.Place.{Place}
 use Rattle.thread_tree.specs.declared.place.At.{At}
 use Rattle.thread_tree.specs.declared.block.Block.{Block, fold-Block}
@@ -15,43 +15,43 @@ use Rattle.thread_check.specs.Scope.{Scope, with_local, ploop, closed, after_cal
 use Rattle.thread_check.specs.Names.{Names, arity, peak_of}
 use Rattle.thread_check.specs.Blocks.{allowed}
 use Rattle.fault_places.specs.Sorts.{used_as_function, used_as_local}
-use Rattle.fault_places.specs.Found.{Found, leaves, found_by, ◌+>◌, ◌+>=◌}
+use Rattle.fault_places.specs.Found.{leaves, found_by, ◌+>◌, ◌+>=◌}
 use Rattle.fault_places.specs.OfExpressions.{expression_faults, expressions_faults}
 use Rattle.fault_places.specs.OfCalls.{takers_faults, call_faults}
 use Rattle.fault_places.specs.OfBlocks.{Walk, new_local_faults, walk_if_some, walk_block, walk_loop}
 use Rattle.fault_places.specs.OfTransactions.{tblock_walk}
 
--- of a local that takes a result, if there is one
+-- the faults of a local that takes a result, if there is one
 unfoldable pub taker_faults : Names → Scope → Option At → List CheckFault
 taker_faults names scope None = []
 taker_faults names scope (Some at) = found_by (used_as_local names scope at)
 
--- of a callee that needs too many locals or blocks beside those in scope
+-- the faults of a callee that needs too many locals or blocks beside those in scope
 abbrev pub room_faults : Names → Scope → At → List CheckFault
 room_faults names scope callee =
     found_by (within_limit callee.place kind.Locals 48 (length scope.locals + (peak_of names callee.name).locals))
     ++ found_by (within_limit callee.place kind.Nesting 24 (scope.blocks + (peak_of names callee.name).blocks))
 
--- of a callee with so many arguments
+-- the faults of a callee with so many arguments
 abbrev pub callee_faults : Names → Scope → At → ℕ → List CheckFault
 callee_faults names scope callee count =
     found_by (used_as_function names scope callee)
     ++ (found_by (same_count callee.place (arity names callee.name) count) ++ room_faults names scope callee)
 
--- of the word `ploop`
+-- the faults of the word `ploop`
 abbrev pub ploop_faults : Names → Place → Scope → List CheckFault
 ploop_faults names place scope =
     found_by (allowed place (not names.in_function))
     ++ (found_by (within_limit place kind.Loops 64 (scope.loops + 1)) ++ found_by (within_limit place kind.Scope 16 (length scope.locals)))
 
--- of an `atomic` block
+-- the faults of an `atomic` block
 unfoldable pub atomic_walk : Names → List At → TBlock → Walk
 atomic_walk names to body scope =
     takers_faults names scope (nat_le (length to) 4) to
     +> (tblock_walk (record { names = names; outside = scope.locals; given = length to - 1 }) body (record scope { in_loop = false })
     +>= λ inner. leaves (record scope { peak = inner.peak }))
 
--- of a statement, by its layer, where `walk` is the walk of the blocks in it
+-- the faults of a statement, by its layer, where `walk` is the walk of the blocks in it
 abbrev pub statement_steps : {S B : Type 0} → Names → (B → Walk) → Stmt-F S B → Walk
 statement_steps names walk (stmt.Let at e) scope =
     new_local_faults names scope at +> expression_faults names scope e +> leaves (with_local at.name scope)
@@ -77,14 +77,14 @@ statement_steps names walk (stmt.Call place call to) scope =
     +> takers_faults names scope (length to == result_count (kind_of_call call) 0) to
     +> leaves scope
 
--- of a block, by its layer
+-- the faults of a block, by its layer
 abbrev pub block_steps : {B : Type 0} → Block-F Walk B → Walk
 block_steps block = walk_block block.place block.stmts
 
--- of a statement of a body
+-- the faults of a statement of a body
 unfoldable pub statement_walk : Names → Stmt → Walk
 statement_walk names = fold-Stmt Walk Walk (statement_steps names (λ walk. walk)) block_steps
 
--- of a block of a body
+-- the faults of a block of a body
 unfoldable pub block_walk : Names → Block → Walk
 block_walk names = fold-Block Walk Walk (statement_steps names (λ walk. walk)) block_steps

@@ -7,7 +7,7 @@ use Rattle.thread_tree.specs.declared.tree.Decl.TheVariants as decl
 use Rattle.thread_tree.specs.declared.tree.Tree.{Tree}
 use Rattle.thread_check.specs.declared.fault.Kind.TheVariants as kind
 use Rattle.thread_check.specs.declared.fault.CheckFault.{CheckFault}
-use Rattle.thread_check.specs.declared.fault.CheckFault.TheVariants.{UnknownName, TwiceNamed, WrongCount, TooMany}
+use Rattle.thread_check.specs.declared.fault.CheckFault.TheVariants.{UnknownName, TwiceNamed, NotAllowedHere, WrongCount, OutOfRange, TooMany}
 
 abbrev pub at_line : ℕ → ℕ → Place
 at_line line column = record { line = line; column = column }
@@ -48,3 +48,11 @@ nine = at_line 3 20
 
 abbrev pub ninth_faults : List CheckFault
 ninth_faults = UnknownName (at_line 3 20) ∷ TooMany (at_line 3 20) kind.Items 9 ∷ UnknownName (at_line 3 24) ∷ []
+
+-- a second name of a type after `->`: it stands twice, and it is no local
+abbrev pub taker_faults : List CheckFault
+taker_faults = TwiceNamed (at_line 5 9) ∷ NotAllowedHere (at_line 5 9) ∷ []
+
+-- a fault of each row of the table
+abbrev pub table : Place → List CheckFault
+table place = UnknownName place ∷ TwiceNamed place ∷ NotAllowedHere place ∷ WrongCount place ∷ OutOfRange place 9 ∷ TooMany place kind.Items 9 ∷ []

@@ -1,10 +1,9 @@
 -- A used name, by the sort that its place needs. A sort is told here by a declaration of that sort.
-use Rattle.std.specs.Prelude.{ℕ, List, [], None}
+use Rattle.std.specs.Prelude.{[], None}
 use Rattle.thread_tree.specs.declared.place.At.{At}
 use Rattle.thread_tree.specs.declared.place.Num.{Num}
 use Rattle.thread_tree.specs.declared.block.Block.{Block, roll-Block}
 use Rattle.thread_tree.specs.declared.expr.Expr.TheVariants as expr
-use Rattle.thread_tree.specs.declared.tree.Decl.{Decl}
 use Rattle.thread_tree.specs.declared.tree.Decl.TheVariants as decl
 use Rattle.thread_check.specs.Verdict.{Verdict}
 use Rattle.thread_check.specs.Scope.{Scope}

@@ -1,5 +1,6 @@
 // The laws of the places of faults, as contracts of functions that do nothing.
-ghost use Rattle.std.specs.Prelude.{◌≡◌, ℕ, List, [], Some};
+ghost use Rattle.std.specs.Prelude.{◌≡◌, ℕ, List, [], Some, None};
+ghost use Rattle.thread_tree.specs.declared.place.Place.{Place};
 ghost use Rattle.thread_tree.specs.declared.token.Placed.{Placed};
 ghost use Rattle.thread_tree.specs.declared.tree.Decl.{Decl};
 ghost use Rattle.thread_tree.specs.declared.tree.Tree.{Tree};
@@ -7,8 +8,8 @@ ghost use Rattle.thread_tree.specs.SpellingOfDeclarations.{SpellsDecl, SpellsPro
 ghost use Rattle.thread_tokens.specs.Scan.{scan_of};
 ghost use Rattle.thread_check.specs.declared.fault.CheckFault.{CheckFault};
 ghost use Rattle.thread_check.specs.Names.{Names};
-ghost use Rattle.thread_check.specs.Faults.{fault_of};
-ghost use Rattle.fault_places.specs.Order.{IsRising, AreInOrder};
+ghost use Rattle.thread_check.specs.Faults.{fault_of, IsTold};
+ghost use Rattle.fault_places.specs.Order.{IsRising, AreInOrder, place_of};
 ghost use Rattle.fault_places.specs.Met.{AreMet};
 ghost use Rattle.fault_places.specs.Found.{first_of};
 ghost use Rattle.fault_places.specs.OfDeclarations.{declaration_walk, faults_of};
@@ -25,9 +26,12 @@ pub fn rising()
     ensures faults { (text : List ℕ) (tree : Tree) → SpellsProgram (scan_of text).tokens tree.decls → AreInOrder (faults_of tree) }
 {}
 
-/// The fault that is answered is one of all the faults of the program, and none of them stands before it.
-#[tactic(auto, using(crate::proofs::FirstFault::first_fault, crate::proofs::FirstFault::earliest_fault))]
+/// The fault that is answered is one of all the faults of the program, and it comes no later than any of them: none
+/// stands before it, and none that stands with it comes before it in the table. `told` says it of what `check` tells.
+#[tactic(auto, using(crate::proofs::FirstFault::first_fault, crate::proofs::FirstFault::no_faults, crate::proofs::FirstFault::earliest_fault, crate::proofs::FirstFault::told_fault))]
 pub fn earliest()
     ensures first { (tokens : List Placed) (tree : Tree) → SpellsProgram tokens tree.decls → fault_of tree ≡ first_of (faults_of tree) }
+    ensures accepted { (tokens : List Placed) (tree : Tree) → SpellsProgram tokens tree.decls → fault_of tree ≡ None → faults_of tree ≡ [] }
     ensures none_before { (text : List ℕ) (tree : Tree) (fault : CheckFault) → SpellsProgram (scan_of text).tokens tree.decls → fault_of tree ≡ Some fault → IsEarliest fault (faults_of tree) }
+    ensures told { (text : List ℕ) (tree : Tree) (fault : CheckFault) (place : Place) → SpellsProgram (scan_of text).tokens tree.decls → IsTold (fault_of tree) fault → place_of fault ≡ Some place → IsEarliest fault (faults_of tree) }
 {}

@@ -19,24 +19,24 @@ const TELLING: &[u8] = b" \n{};=\"a9/-\xff";
 
 /// How a text is answered.
 #[derive(Debug, Drop, Clone, Copy, PartialEq)]
-enum Answered {
+enum Outcome {
     Accepted,
     Refused,
     NoMemory,
 }
 
 /// How `parse` and then `check` answer a text.
-fn answered(alloc: Global, text: &[u8]) -> Answered
+fn answered(alloc: Global, text: &[u8]) -> Outcome
     requires { length text.now < 2 ^ 32 - 1 }
 {
     match parse(alloc, text) {
         Ok(tree) => match check(alloc, tree) {
-            Ok(_) => Answered::Accepted,
-            Err(CheckFault::NoMemory) => Answered::NoMemory,
-            Err(_) => Answered::Refused,
+            Ok(_) => Outcome::Accepted,
+            Err(CheckFault::NoMemory) => Outcome::NoMemory,
+            Err(_) => Outcome::Refused,
         },
-        Err(TextFault::NoMemory) => Answered::NoMemory,
-        Err(_) => Answered::Refused,
+        Err(TextFault::NoMemory) => Outcome::NoMemory,
+        Err(_) => Outcome::Refused,
     }
 }
 
@@ -64,14 +64,14 @@ fn without(alloc: Global, text: &[u8], at: usize) -> Result<Vec<u8>, AllocError>
 fn every_byte_changed(rt: HostRuntime) -> Result<(), Fail> {
     let program = PROGRAM;
     assert!(rt; program.len() < 100);
-    assert_eq!(rt; answered(rt.alloc(), program), Answered::Accepted);
+    assert_eq!(rt; answered(rt.alloc(), program), Outcome::Accepted);
     for at in 0..program.len() {
         for byte in TELLING {
             let text = changed(rt.alloc(), program, at, *byte)?;
-            assert_ne!(rt; answered(rt.alloc(), &text), Answered::NoMemory);
+            assert_ne!(rt; answered(rt.alloc(), &text), Outcome::NoMemory);
         }
         let text = without(rt.alloc(), program, at)?;
-        assert_ne!(rt; answered(rt.alloc(), &text), Answered::NoMemory);
+        assert_ne!(rt; answered(rt.alloc(), &text), Outcome::NoMemory);
     }
     Ok(())
 }
@@ -97,6 +97,9 @@ fn laws(rt: HostRuntime) -> Result<(), Fail> {
     let Err(fault) = check(rt.alloc(), tree) else {
         return Err(Fail::from("accepted"));
     };
-    assert_eq!(rt; fault, CheckFault::UnknownName(thread_tree::Place { line: 1, column: 7 }));
+    assert_eq!(rt;
+        fault,
+        CheckFault::UnknownName(thread_tree::Place { line: 1, column: 7 })
+    );
     Ok(())
 }
