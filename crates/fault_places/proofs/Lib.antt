@@ -11,3 +11,5 @@ pub mod Statements
 pub mod Declarations
 pub mod FirstFault
 pub mod Rows
+pub mod Passing
+pub mod PassingBodies

@@ -12,12 +12,16 @@ use Rattle.thread_check.specs.Calls.{once}
 use Rattle.thread_check.specs.Declarations.{count_of}
 use Rattle.fault_places.specs.Order.{IsBefore, on_earlier_line, on_its_line, rank_of}
 use Rattle.fault_places.specs.OfCalls.{counted_faults, further_taker_faults}
+use Rattle.fault_places.specs.PlacesOf.{places_of}
 use Rattle.fault_places.specs.OfDeclarations.{declaration_walk, faults_of}
-use Rattle.fault_places.specs.Rows.{at_line, two_starts, two_starts_faults, twice, twice_faults, nine, ninth_faults, named, taker_faults, table}
+use Rattle.fault_places.specs.Rows.{at_line, two_starts, two_starts_faults, two_starts_places, twice, twice_faults, nine, ninth_faults, named, taker_faults, table}
 
 pub two_starts_row : faults_of two_starts ≡ two_starts_faults
 unfolding faults_of declaration_walk same_count within_limit declares sort_of_declaration sort_of arity_of_declaration arity same_sort used fresh once count_of
 two_starts_row = refl
+
+pub places_row : places_of two_starts.decls ≡ two_starts_places
+places_row = refl
 
 pub twice_row : faults_of twice ≡ twice_faults
 unfolding faults_of declaration_walk same_count within_limit declares sort_of_declaration sort_of arity_of_declaration arity same_sort used fresh once count_of

@@ -9,4 +9,6 @@ pub mod OfTransactions
 pub mod OfStatements
 pub mod OfDeclarations
 pub mod Earliest
+pub mod PlacesOf
+pub mod Passed
 pub mod Rows

@@ -31,6 +31,10 @@ two_starts = program (
 abbrev pub two_starts_faults : List CheckFault
 two_starts_faults = UnknownName (at_line 1 7) ∷ UnknownName (at_line 2 7) ∷ WrongCount (at_line 2 7) ∷ []
 
+-- the places in both, in order of the text
+abbrev pub two_starts_places : List Place
+two_starts_places = at_line 1 1 ∷ at_line 1 7 ∷ at_line 2 1 ∷ at_line 2 7 ∷ at_line 2 9 ∷ []
+
 -- `type a { b, b }`, and on the next line `object a: c;`
 abbrev pub twice : Tree
 twice = program (
