@@ -1,3 +1,4 @@
 pub mod StartLaws
 pub mod LifeLaws
 pub mod RowLaws
+pub mod LawSets

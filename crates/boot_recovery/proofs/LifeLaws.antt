@@ -3,6 +3,7 @@ use Rattle.std.proofs.Common.{◌≡◌, ◌≢◌, ℕ, zero, suc, ◌+◌, ◌
 use Rattle.std.proofs.lemmas.Bool.Decides.{nat_tests}
 use Rattle.std.proofs.lemmas.Option.{none-some}
 use Rattle.std.proofs.lemmas.List.{take-append-drop, drop_more, get_or-drop}
+use Rattle.std.proofs.lemmas.List.Sums.{sum_by-cons}
 use Rattle.std.proofs.Math.Seq.{take-append_seam, drop-append_seam, drop-nil}
 use Rattle.std.specs.Prelude.{◌&&◌, if◌then◌else◌, Option, Some, None, sum_by, option_and_then}
 use Rattle.thread_tree.specs.declared.action.Call.{Call}
@@ -152,14 +153,14 @@ relived_none : (p : Program) (rs : List Record) → relived p rs None ≡ None
 relived_none p [] = refl
 relived_none p (r ∷ rs) = relived_none p rs
 
-lived_none : (p : Program) (rs : List Record) (open : Bool) → lived p rs open None ≡ None
+lived_none : (p : Program) (rs : List Record) (still : Bool) → lived p rs still None ≡ None
 lived_none p rs true = ap (option_and_then (opened p)) (relived_none p rs)
 lived_none p rs false = relived_none p rs
 
-lived_passes : (p : Program) (r : Record) (rs : List Record) (open : Bool) (life final : Life) → lived p (r ∷ rs) open (Some life) ≡ Some final → (next : Life) × (passed p r life ≡ Some next)
-lived_passes p r rs open life final is = go (passed p r life) refl is where
-  go : (o : Option Life) → passed p r life ≡ o → lived p rs open o ≡ Some final → (next : Life) × (passed p r life ≡ Some next)
-  go None given is = absurd (none-some final (sym (lived_none p rs open) ∙ is))
+lived_passes : (p : Program) (r : Record) (rs : List Record) (still : Bool) (life final : Life) → lived p (r ∷ rs) still (Some life) ≡ Some final → (next : Life) × (passed p r life ≡ Some next)
+lived_passes p r rs still life final is = go (passed p r life) refl is where
+  go : (o : Option Life) → passed p r life ≡ o → lived p rs still o ≡ Some final → (next : Life) × (passed p r life ≡ Some next)
+  go None given is = absurd (none-some final (sym (lived_none p rs still) ∙ is))
   go (Some next) given is = (next, given)
 
 -- words behind others
@@ -225,7 +226,8 @@ words_owed [] = refl
 words_owed (r ∷ rs) =
     let rest = words_owed rs in
     let part = length-append r.results (encoded rs) in
-    omega (arith, rest, part)
+    let sum = sum_by-cons words_in r rs in
+    omega (arith, rest, part, sum)
 
 pub begins : (p : Program) (row : RowWords) (local : LocalState) (now : ℕ) (thread : Thread) → started p (start_in row) ≡ Some local → IsLife p row thread → Remains p row 0 local now now thread
 begins p row local now thread is life =
@@ -271,7 +273,7 @@ ends_by p row from local before now moves count thread (r ∷ rs) used all count
 ends : (p : Program) (row : RowWords) (from : ℕ) (local : LocalState) (before now : ℕ) (thread : Thread) → Remains p row from local before now thread → row.used ≤ from → Ends p local before now thread
 ends p row from local before now thread r all = ends_by p row from local before now r.moves r.passed thread r.records r.count all r.counted r.lives
 
-closed_by : (p : Program) (local : LocalState) (before now moves count : ℕ) (thread : Thread) (open : Bool) → open ≡ false → now ≡ before + moves → lived p [] open (Some (record { local = local; moves = moves; passed = count })) ≡ Some (life_of thread) → IsGivenBack local before now thread
+closed_by : (p : Program) (local : LocalState) (before now moves count : ℕ) (thread : Thread) (still : Bool) → still ≡ false → now ≡ before + moves → lived p [] still (Some (record { local = local; moves = moves; passed = count })) ≡ Some (life_of thread) → IsGivenBack local before now thread
 closed_by p local before now moves count thread true is counted lives = absurd (let f : ◌≡◌ {A = Bool} true false = is in cc)
 closed_by p local before now moves count thread false is counted lives =
     let same = ap moves_in lives in
@@ -294,7 +296,7 @@ opened_by local before now moves count thread a (AtAction st) counted lives =
 opened_by local before now moves count thread a Finished counted lives = absurd (none-some (life_of thread) lives)
 opened_by local before now moves count thread a Watchdog counted lives = absurd (none-some (life_of thread) lives)
 
-open_by : (p : Program) (local : LocalState) (before now moves count : ℕ) (thread : Thread) (open : Bool) → open ≡ true → now ≡ before + moves → lived p [] open (Some (record { local = local; moves = moves; passed = count })) ≡ Some (life_of thread) → IsGivenBack (ahead p local).local before (now + (ahead p local).moves) thread
+open_by : (p : Program) (local : LocalState) (before now moves count : ℕ) (thread : Thread) (still : Bool) → still ≡ true → now ≡ before + moves → lived p [] still (Some (record { local = local; moves = moves; passed = count })) ≡ Some (life_of thread) → IsGivenBack (ahead p local).local before (now + (ahead p local).moves) thread
 open_by p local before now moves count thread false is counted lives = absurd (let f : ◌≡◌ {A = Bool} false true = is in cc)
 open_by p local before now moves count thread true is counted lives = opened_by local before now moves count thread (ahead p local) (ahead p local).arrival counted lives
 
