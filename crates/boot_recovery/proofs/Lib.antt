@@ -1,4 +1,5 @@
 pub mod StartLaws
 pub mod LifeLaws
 pub mod RowLaws
+pub mod BeginLaws
 pub mod LawSets

@@ -2,10 +2,10 @@
 use Rattle.std.proofs.Common.{◌≡◌, ◌≢◌, ℕ, zero, suc, ◌+◌, ◌-◌, ◌*◌, ◌/◌, ◌%◌, ◌<◌, ◌≤◌, ◌==◌, List, [], ◌∷◌, ◌++◌, Bool, true, false, refl, ap, sym, subst, ◌∙◌, arith, length, take, drop, slice_index, append_assoc, length-append, length-drop}
 use Rattle.std.proofs.lemmas.Bool.Decides.{nat_tests}
 use Rattle.std.proofs.lemmas.Option.{none-some}
-use Rattle.std.proofs.lemmas.List.{take-append-drop, drop_more, get_or-drop}
+use Rattle.std.proofs.lemmas.List.{take-append-drop, drop_more, get_or-drop, length-take-le}
 use Rattle.std.proofs.lemmas.List.Sums.{sum_by-cons}
 use Rattle.std.proofs.Math.Seq.{take-append_seam, drop-append_seam, drop-nil}
-use Rattle.std.specs.Prelude.{◌&&◌, if◌then◌else◌, Option, Some, None, sum_by, option_and_then}
+use Rattle.std.specs.Prelude.{◌&&◌, if◌then◌else◌, Option, Some, None, sum_by, option_and_then, IsSomeAnd}
 use Rattle.thread_tree.specs.declared.action.Call.{Call}
 use Rattle.thread_tree.specs.declared.action.Call.TheVariants as call
 use Rattle.thread_tree.specs.declared.block.Block.{Block}
@@ -21,10 +21,12 @@ use Rattle.thread_tree.specs.Relive as relive
 use Rattle.thread_tree.specs.Relive.{Record, Life, started, records, passed_by, passed, relived, opened, begun}
 use Rattle.kernel_model.specs.Kernel.{Thread}
 use Rattle.kernel_model.specs.Relived.{is_open, life_of, words_in}
+use Rattle.kernel_image.specs.Agree.{IsThread}
 use Rattle.kernel_image.specs.Decoded.{RowWords}
 use Rattle.kernel_image.proofs.CellLaws.{by_test}
 use Rattle.replay_list.specs.Records.{encoded, recorded, results_of, start_in}
 use Rattle.replay_list.specs.Stands.{IsLife}
+use Rattle.boot_recovery.proofs.RowLaws.{ready_closed, other_open}
 use Rattle.boot_recovery.specs.Remaining.{lived, Remains, IsGivenBack}
 
 -- where a thread arrives at an action, it stands there
@@ -302,3 +304,32 @@ open_by p local before now moves count thread true is counted lives = opened_by 
 
 pub opens : (p : Program) (row : RowWords) (from : ℕ) (local : LocalState) (before now : ℕ) (thread : Thread) → Remains p row from local before now thread → row.used ≤ from → is_open thread.activity ≡ true → IsGivenBack (ahead p local).local before (now + (ahead p local).moves) thread
 opens p row from local before now thread r all is = let e = ends p row from local before now thread r all in open_by p local before now e.moves e.passed thread (is_open thread.activity) is e.counted e.lives
+
+-- a thread that is ready is given back by its records, and another one by the way to its open call
+pub arrived_ready : (p : Program) (row : RowWords) (from : ℕ) (local : LocalState) (before now : ℕ) (thread : Thread) → IsThread row thread → row.used ≤ from → Remains p row from local before now thread → row.state ≡ 1 → IsGivenBack local before now thread
+arrived_ready p row from local before now thread is all r ready = closes p row from local before now thread r all (ready_closed row thread.activity is.does ready)
+
+pub arrived_open : (p : Program) (row : RowWords) (from : ℕ) (local new : LocalState) (before now after : ℕ) (thread : Thread) → IsThread row thread → row.used ≤ from → Remains p row from local before now thread → row.state ≢ 1 → new ≡ (ahead p local).local → after ≡ now + (ahead p local).moves → IsGivenBack new before after thread
+arrived_open p row from local new before now after thread is all r other moved stepped =
+    let back = opens p row from local before now thread r all (other_open row thread.activity is.does other) in
+    record { local = moved ∙ back.local; counted = stepped ∙ back.counted }
+
+-- what the code of one turn needs, and what it does
+pub one_turn : (p : Program) (row : RowWords) (from : ℕ) (local : LocalState) (now : ℕ) → length row.records ≡ 256 → from < row.used → (more : (before : ℕ) × (known : Thread) × Remains p row from local before now known) → Turns p row from local more.0 now more.1
+one_turn p row from local now sized some more = turns p row from local more.0 now more.1 sized more.2 some
+
+pub turn_action : (p : Program) (row : RowWords) (from count : ℕ) (local : LocalState) (before now : ℕ) (thread : Thread) (words : List ℕ) → length row.records ≡ 256 → Turns p row from local before now thread → count ≡ results_of (slice_index row.records from) → words ≡ take count (drop (from + 1) row.records) → IsSomeAnd (next_action (ahead p local).local) (λ (action : Action). length words ≡ result_count action.kind action.given)
+turn_action p row from count local before now thread words sized turn many read =
+    let fits = turn.fits in
+    let long : length (drop (from + 1) row.records) ≡ length row.records - (from + 1) = length-drop (from + 1) row.records in
+    let all : length words ≡ count = ap length read ∙ length-take-le count (drop (from + 1) row.records) (omega (arith, long, sized, fits, many)) in
+    subst (λ (o : Option Action). IsSomeAnd o (λ (action : Action). length words ≡ result_count action.kind action.given)) (sym turn.next) (all ∙ many ∙ turn.many)
+
+pub turned_to : (p : Program) (row : RowWords) (from count : ℕ) (local new : LocalState) (before now after : ℕ) (thread : Thread) (words : List ℕ) → length row.records ≡ 256 → Remains p row from local before now thread → from < row.used → count ≡ results_of (slice_index row.records from) → words ≡ take count (drop (from + 1) row.records) → new ≡ bind (ahead p local).local words → after ≡ now + (ahead p local).moves → Remains p row (from + 1 + count) new before after thread
+turned_to p row from count local new before now after thread words sized remains some many read bound stepped =
+    let goes = (turns p row from local before now thread sized remains some).goes in
+    let n : ℕ = results_of (slice_index row.records from) in
+    let given : new ≡ bind (ahead p local).local (take n (drop (from + 1) row.records)) = bound ∙ ap (λ (ws : List ℕ). bind (ahead p local).local ws) (read ∙ ap (λ (m : ℕ). take m (drop (from + 1) row.records)) many) in
+    subst (λ (m : ℕ). Remains p row (from + 1 + m) new before after thread) (sym many)
+    (subst (λ (s : LocalState). Remains p row (from + 1 + n) s before after thread) (sym given)
+    (subst (λ (m : ℕ). Remains p row (from + 1 + n) (bind (ahead p local).local (take n (drop (from + 1) row.records))) before m thread) (sym stepped) goes))

@@ -1,9 +1,10 @@
 -- The words of a thread's row, one by one.
-use Rattle.std.proofs.Common.{◌≡◌, ◌≢◌, ℕ, zero, suc, ◌+◌, ◌-◌, ◌<◌, ◌≤◌, List, [], ◌∷◌, ◌++◌, true, false, refl, ap, sym, ◌∙◌, arith, length, take, drop, slice_index, length-drop}
+use Rattle.std.proofs.Common.{◌≡◌, ◌≢◌, ℕ, zero, suc, ◌+◌, ◌-◌, ◌<◌, ◌≤◌, List, [], ◌∷◌, ◌++◌, true, false, inl, inr, refl, ap, sym, ◌∙◌, arith, length, take, drop, slice_index, length-drop}
 use Rattle.std.proofs.lemmas.Bool.Decides.{nat_tests}
-use Rattle.std.proofs.lemmas.List.{take_more, get_or-drop}
+use Rattle.std.proofs.lemmas.List.{take_all, take_more, get_or-drop}
 use Rattle.std.proofs.lemmas.List.FromFn.{get_or-map-range_with_len, length-map-range_with_len}
-use Rattle.std.specs.Prelude.{nat_lt}
+use Rattle.std.proofs.lemmas.Bool.{cases_lt}
+use Rattle.std.specs.Prelude.{nat_lt, min, ◌&&◌, IsTrue}
 use Rattle.kernel_model.specs.Kernel.{Activity}
 use Rattle.kernel_model.specs.Kernel.Activity.{Ready, Delayed, Waiting}
 use Rattle.kernel_model.specs.Relived.{is_open}
@@ -62,3 +63,36 @@ pub other_open : (row : RowWords) (activity : Activity) → Does row activity �
 other_open row Ready does is = absurd (is does)
 other_open row (Delayed wake) does is = refl
 other_open row (Waiting wait) does is = refl
+
+-- words of a row
+pub row_word_0 : (word : Cell → ℕ) (t : ℕ) → t < 16 → (row_at (decoded_of word) t).state ≡ word (RowWord t 0)
+row_word_0 word t low = ap (λ (row : RowWords). row.state) (row_is word t low)
+
+pub row_word_1 : (word : Cell → ℕ) (t : ℕ) → t < 16 → (row_at (decoded_of word) t).template ≡ word (RowWord t 1)
+row_word_1 word t low = ap (λ (row : RowWords). row.template) (row_is word t low)
+
+pub row_word_13 : (word : Cell → ℕ) (t : ℕ) → t < 16 → (row_at (decoded_of word) t).start ≡ word (RowWord t 13)
+row_word_13 word t low = ap (λ (row : RowWords). row.start) (row_is word t low)
+
+pub row_word_14 : (word : Cell → ℕ) (t : ℕ) → t < 16 → (row_at (decoded_of word) t).start_count ≡ word (RowWord t 14)
+row_word_14 word t low = ap (λ (row : RowWords). row.start_count) (row_is word t low)
+
+pub row_word_15 : (word : Cell → ℕ) (t : ℕ) → t < 16 → (row_at (decoded_of word) t).used ≡ word (RowWord t 15)
+row_word_15 word t low = ap (λ (row : RowWords). row.used) (row_is word t low)
+
+-- no more start values than there are words for
+pub values_all : (word : Cell → ℕ) (t n : ℕ) → t < 16 → n ≡ word (RowWord t 14) → take (min n 16) (row_at (decoded_of word) t).start_values ≡ take (row_at (decoded_of word) t).start_count (row_at (decoded_of word) t).start_values
+values_all word t n low is =
+    let xs = (row_at (decoded_of word) t).start_values in
+    let sized = values_sized word t low in
+    let count : n ≡ (row_at (decoded_of word) t).start_count = is ∙ sym (row_word_14 word t low) in
+    elim (cases_lt n 16) [
+      | inl within ↦ ap (λ (m : ℕ). take m xs) (let e : min n 16 ≡ n = omega (arith, within) in e ∙ count)
+      | inr past ↦ let all : length xs ≤ min n 16 = omega (arith, sized, past) in
+          let long : length xs ≤ (row_at (decoded_of word) t).start_count = omega (arith, sized, past, count) in
+          take_all (min n 16) xs all ∙ sym (take_all (row_at (decoded_of word) t).start_count xs long)
+    ]
+
+-- the cell of a record word
+pub record_cell : (t i : ℕ) → t < 16 → i < 256 → IsTrue (nat_lt t 16 && nat_lt i 256)
+record_cell t i low within = grind (arith, nat_tests)

@@ -69,7 +69,7 @@ find_at test (x ∷ xs) = find-here test x xs (find_at test xs)
 row_word : (p : Program) (t word : ℕ) (s : Start) → slice_get p.starts t ≡ Some s → initial_row_word p t word ≡ started_word p t word s
 row_word p t word s is = ap (λ (o : Option Start). elim o [ None ↦ 0 | Some start ↦ started_word p t word start ]) is
 
-start_is : (row : RowWords) (template : ℕ) (values : List ℕ) → row.start ≡ 0 → row.template ≡ template → values_in row ≡ values → start_in row ≡ Birth template values
+pub start_is : (row : RowWords) (template : ℕ) (values : List ℕ) → row.start ≡ 0 → row.template ≡ template → values_in row ≡ values → start_in row ≡ Birth template values
 start_is row template values none is same =
     let test : (row.start == 0) ≡ true = grind (arith, nat_tests) in
     rw test (λ i. Birth (is i) (same i))
