@@ -22,6 +22,14 @@ length_listed : (n : ℕ) (f : ℕ → ℕ) → length (listed n f) ≡ n
 unfolding listed
 length_listed n f = length-map-range_with_len f 0 n
 
+length_listed_rows : (n : ℕ) (f : ℕ → RowWords) → length (listed n f) ≡ n
+unfolding listed
+length_listed_rows n f = length-map-range_with_len f 0 n
+
+pub length_rows : (word : Cell → ℕ) → length (decoded_of word).rows ≡ 16
+unfolding decoded_of
+length_rows word = length_listed_rows 16 (row_of word)
+
 row_is : (word : Cell → ℕ) (t : ℕ) → t < 16 → row_at (decoded_of word) t ≡ row_of word t
 row_is word t low = row_at-decoded word t (grind (arith, nat_tests))
 

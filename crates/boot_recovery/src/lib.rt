@@ -1,8 +1,13 @@
 //! Recovery of a kernel from the words of a device alone (docs/BOOTS.md).
 #![tactic(auto)]
 
+mod formatting;
+mod recovery;
 mod restoring;
+mod rows;
 mod starting;
 
+pub use recovery::recover;
 pub use restoring::restore;
+pub use rows::restore_all;
 pub use starting::formatting_stands;
