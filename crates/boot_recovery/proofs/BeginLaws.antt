@@ -9,7 +9,7 @@ use Rattle.thread_tree.specs.Actions.{Spot, inside, loops}
 use Rattle.thread_tree.specs.Relive.{Start, started, where_as_many}
 use Rattle.thread_tree.specs.Relive.Start.{Birth, Loop}
 use Rattle.kernel_image.specs.Decoded.{RowWords}
-use Rattle.kernel_image.proofs.CellLaws.{by_test}
+use Rattle.boot_recovery.proofs.Choices.{by_test}
 use Rattle.replay_list.specs.Records.{start_in, values_in}
 use Rattle.boot_recovery.proofs.StartLaws.{start_is}
 

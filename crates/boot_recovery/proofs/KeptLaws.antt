@@ -20,41 +20,15 @@ use Rattle.kernel_image.specs.Cells.{cells, cell_of}
 use Rattle.kernel_image.specs.Decoded.{Decoded, decoded_of, image_in}
 use Rattle.kernel_image.specs.Initial.{initial_cell, initial_word}
 use Rattle.kernel_image.specs.Start.{IsFormatted}
-use Rattle.kernel_image.proofs.CellLaws.{by_test}
+use Rattle.boot_recovery.proofs.Choices.{by_test}
 use Rattle.replay_list.specs.Kept.{IsKept, IsSaved, IsBlank, cost_of_row, cost, recovering, recovery_steps}
 use Rattle.replay_list.specs.Stands.{Stands}
 use Rattle.boot_recovery.specs.Remaining.{age_in}
-
--- a formatted device that is kept has a well formed journal, and another one is blank
-pub kept_journalled : (p : Program) (words : List ℕ) (K : State) → IsKept p words K → slice_index words 0 ≡ magic → IsJournalled words
-kept_journalled p words K kept is = (kept.saved is).journalled
-
-pub kept_blank : (p : Program) (words : List ℕ) (K : State) → IsKept p words K → slice_index words 0 ≢ magic → slice_index words 0 ≡ 0
-kept_blank p words K kept other = (kept.blank other).blank
 
 -- what the undone words stood for, the present ones stand for
 pub settled_stands : (p : Program) (old new : List ℕ) (K : State) → IsKept p old K → slice_index old 0 ≡ magic → IsAtRest new → durable new ≡ durable old → Stands p (image_in new) K
 settled_stands p old new K kept is rest same =
     subst (λ (words : ℕ → ℕ). Stands p (decoded_of (cells words)) K) (sym same ∙ durable-at_rest new rest) (kept.saved is).stands
-
--- a recovery that is cut leaves the words kept
-pub cut_kept : (p : Program) (old new : List ℕ) (K : State) → IsKept p old K → slice_index old 0 ≡ magic → IsJournalled new → durable new ≡ durable old → IsKept p new K
-cut_kept p old new K kept is journalled same = record {
-  saved = λ formatted. record {
-    journalled = journalled;
-    stands = subst (λ (words : ℕ → ℕ). Stands p (decoded_of (cells words)) K) (sym same) (kept.saved is).stands;
-  };
-  blank = λ other. absurd (other journalled.formatted);
-}
-
-pub blank_kept : (p : Program) (old new : List ℕ) (K : State) → IsKept p old K → slice_index old 0 ≢ magic → slice_index new 0 ≡ 0 → IsKept p new K
-blank_kept p old new K kept other is = record {
-  saved = λ formatted. absurd (omega (arith, is, formatted));
-  blank = λ none. record { blank = is; initial = (kept.blank other).initial };
-}
-
-pub blank_stands : (p : Program) (old new : List ℕ) (K : State) → IsKept p old K → slice_index old 0 ≢ magic → Stands p (image_in new) (initial p) → Stands p (image_in new) K
-blank_stands p old new K kept other stands = subst (λ (k : State). Stands p (image_in new) k) (sym (kept.blank other).initial) stands
 
 -- words that are all written
 pub written_formatted : (p : Program) (words : List ℕ) → length words ≡ 16384 → ((at : ℕ) → 1 ≤ at → at < 16384 → slice_index words at ≡ initial_word p at) → IsFormatted p (slice_set words 0 magic)
@@ -127,16 +101,14 @@ recovery_bound p words K old mid new kept most stepped = by_test (slice_index wo
     omega (arith, some, all, ages, most, stepped))
 
 -- a device that was formatted is at rest, and stands for the start
-pub made_journalled : (words : List ℕ) → IsAtRest words → IsJournalled words
-made_journalled words rest = IsJournalled-at_rest words rest
-
 pub made_stands : (p : Program) (words new : List ℕ) → IsAtRest words → new ≡ undone words → image_in words ≡ decoded_of (initial_cell p) → Stands p (decoded_of (initial_cell p)) (initial p) → Stands p (image_in new) (initial p)
 made_stands p words new rest is image stands =
     subst (λ (d : Decoded). Stands p d (initial p)) (sym (ap (λ (ws : List ℕ). image_in ws) (is ∙ undone-at_rest words rest) ∙ image)) stands
 
-pub made_undoing : (words : List ℕ) → IsAtRest words → undoing words ≡ 0
-made_undoing words rest =
-    let none : (slice_index words 0 == magic) ≡ true = let is = rest.formatted in grind (arith, nat_tests) in
-    let zero_entries : entries words ≡ 0 = rw none (rest.empty) in
-    let test : (entries words == 0) ≡ true = grind (arith, nat_tests) in
-    rw test refl
+
+-- a blank device is kept for the start
+pub blank_is_kept : (p : Program) (words : List ℕ) → slice_index words 0 ≡ 0 → IsKept p words (initial p)
+blank_is_kept p words is = record {
+  saved = λ formatted. absurd (omega (arith, is, formatted));
+  blank = λ none. record { blank = is; initial = refl };
+}

@@ -1,3 +1,4 @@
+pub mod Choices
 pub mod StartLaws
 pub mod LifeLaws
 pub mod RowLaws

@@ -23,7 +23,7 @@ use Rattle.kernel_model.specs.Kernel.{Thread}
 use Rattle.kernel_model.specs.Relived.{is_open, life_of, words_in}
 use Rattle.kernel_image.specs.Agree.{IsThread}
 use Rattle.kernel_image.specs.Decoded.{RowWords}
-use Rattle.kernel_image.proofs.CellLaws.{by_test}
+use Rattle.boot_recovery.proofs.Choices.{by_test}
 use Rattle.replay_list.specs.Records.{encoded, recorded, results_of, start_in}
 use Rattle.replay_list.specs.Stands.{IsLife}
 use Rattle.boot_recovery.proofs.RowLaws.{ready_closed, other_open}

@@ -24,7 +24,7 @@ use Rattle.kernel_image.specs.Agree.{Agrees, Both}
 use Rattle.kernel_image.specs.Decoded.{RowWords, decoded_of, listed, row_of, queue_at, semaphore_at}
 use Rattle.kernel_image.specs.Shown.{items_of, shown, objects_in, byte_of}
 use Rattle.kernel_image.specs.Initial.{initial_cell, initial_row_word, started_word, initial_heap_word, hole_word, first_hole, end_after}
-use Rattle.kernel_image.proofs.CellLaws.{by_test}
+use Rattle.boot_recovery.proofs.Choices.{by_test}
 use Rattle.kernel_image.proofs.InitialRows.{initial-rows, initial-items, initial-semaphore}
 use Rattle.kernel_image.proofs.InitialObjects.{initial-objects}
 use Rattle.persistent_objects.specs.Holes.{AreHoles}
