@@ -8,6 +8,7 @@ mod rows;
 mod starting;
 
 pub use recovery::recover;
-pub use restoring::restore;
-pub use rows::restore_all;
 pub use starting::formatting_stands;
+
+#[cfg(test)]
+mod tests;

@@ -145,7 +145,7 @@ fn arrive<W: Words, L: Ledger>(
 
 /// The context of a live thread, restored from its row: its start, its records, and the call that is open. It takes as
 /// many steps as the thread made moves since its start.
-pub fn restore<W: Words, L: Ledger>(
+pub(crate) fn restore<W: Words, L: Ledger>(
     words: &W,
     program: &Checked,
     thread: u32,

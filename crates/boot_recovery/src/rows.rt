@@ -39,7 +39,7 @@ fn restore_row<W: Words, L: Ledger>(
 }
 
 /// The contexts of all live threads, restored from their rows. It takes as many steps as they made moves.
-pub fn restore_all<W: Words, L: Ledger>(
+pub(crate) fn restore_all<W: Words, L: Ledger>(
     words: &W,
     program: &Checked,
     steps: &mut Steps<L>,
