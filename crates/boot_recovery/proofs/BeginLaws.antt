@@ -2,12 +2,12 @@
 use Rattle.std.proofs.Common.{◌≡◌, ◌≢◌, ℕ, ◌-◌, ◌==◌, List, true, false, refl, ap, sym, ◌∙◌, arith, length}
 use Rattle.std.proofs.lemmas.Bool.Decides.{nat_tests}
 use Rattle.std.proofs.lemmas.Option.{none-some}
-use Rattle.std.specs.Prelude.{if◌then◌else◌, slice_get, Option, Some, None, IfSome, IsSomeAnd, option_and_then}
+use Rattle.std.specs.Prelude.{slice_get, Option, Some, None, IfSome, IsSomeAnd, option_and_then}
 use Rattle.thread_tree.specs.Program.{Program, Template}
 use Rattle.thread_tree.specs.LocalState.{LocalState, birth}
 use Rattle.thread_tree.specs.Actions.{Spot, inside, loops}
-use Rattle.thread_tree.specs.Relive.{Start, started, where_as_many}
-use Rattle.thread_tree.specs.Relive.Start.{Birth, Loop}
+use Rattle.thread_tree.specs.Relive.{started, where_as_many}
+use Rattle.thread_tree.specs.Relive.Start.{Loop}
 use Rattle.kernel_image.specs.Decoded.{RowWords}
 use Rattle.boot_recovery.proofs.Choices.{by_test}
 use Rattle.replay_list.specs.Records.{start_in, values_in}

@@ -1,7 +1,7 @@
 -- Rows and contexts, one by one.
-use Rattle.std.proofs.Common.{◌≡◌, ◌≢◌, ℕ, zero, suc, ◌+◌, ◌<◌, ◌≤◌, List, [], ◌∷◌, ◌++◌, length, take, refl, ap, sym, subst, ◌∙◌, arith}
+use Rattle.std.proofs.Common.{◌≡◌, ℕ, zero, suc, ◌+◌, ◌<◌, ◌≤◌, List, [], ◌∷◌, ◌++◌, length, take, refl, ap, sym, subst, ◌∙◌, arith}
 use Rattle.std.proofs.lemmas.List.{take_all, take_more, take_more_set}
-use Rattle.std.specs.Prelude.{slice_index_or, slice_set, sum_by, Option, Some, None}
+use Rattle.std.specs.Prelude.{slice_index_or, slice_set, Option, Some, None}
 use Rattle.thread_tree.specs.Program.{Program}
 use Rattle.thread_machine.specs.declared.context.Ctx.{Ctx}
 use Rattle.kernel_model.specs.Kernel as kernel
@@ -9,7 +9,7 @@ use Rattle.kernel_model.specs.Kernel.{Activity, Thread}
 use Rattle.kernel_model.specs.Kernel.Activity.{Ready, Delayed, Waiting}
 use Rattle.kernel_model.specs.Kernel.Row.{Free, Ended, Live}
 use Rattle.kernel_image.specs.Agree.{Both, Does}
-use Rattle.kernel_image.specs.Decoded.{RowWords, decoded_of, row_at, row_of, blank_row}
+use Rattle.kernel_image.specs.Decoded.{RowWords, decoded_of, row_at, blank_row}
 use Rattle.kernel_image.specs.declared.cell.Cell.{Cell}
 use Rattle.boot_recovery.proofs.RowLaws.{length_rows}
 use Rattle.replay_list.specs.Stands.{IsRow, HasContext, IsContextOf}

@@ -1,14 +1,14 @@
 -- Words that are kept, before and after a recovery.
-use Rattle.std.proofs.Common.{◌≡◌, ◌≢◌, ℕ, zero, suc, ◌+◌, ◌-◌, ◌*◌, ◌<◌, ◌≤◌, ◌==◌, List, [], ◌∷◌, ◌++◌, Bool, true, false, length, inl, inr, refl, ap, sym, subst, ◌∙◌, arith}
+use Rattle.std.proofs.Common.{◌≡◌, ◌≢◌, ℕ, ◌+◌, ◌-◌, ◌*◌, ◌<◌, ◌≤◌, ◌==◌, List, [], ◌∷◌, length, inl, inr, refl, ap, sym, subst, ◌∙◌, arith}
 use Rattle.std.proofs.lemmas.Bool.{cases_eq}
 use Rattle.std.proofs.lemmas.Bool.Decides.{nat_tests}
 use Rattle.std.proofs.lemmas.List.{get_or-set_other, get_or-set_same}
 use Rattle.std.proofs.lemmas.List.Sums.{sum_by-append, sum_by-cons}
 use Rattle.std.proofs.lemmas.List.Folds.{sum_by-replicate}
-use Rattle.std.specs.Prelude.{if◌then◌else◌, map, slice_index, slice_set, slice_get, sum_by, replicate, Option, Some, None}
+use Rattle.std.specs.Prelude.{map, slice_index, slice_set, slice_get, sum_by, replicate, Option, Some, None}
 use Rattle.std.specs.List.{enumerate_from}
-use Rattle.undo_journal.specs.Undo.{magic, entries, undoing, undone, outside, durable, IsJournalled, IsAtRest}
-use Rattle.undo_journal.proofs.Undone.{durable-at_rest, undone-at_rest, IsJournalled-at_rest}
+use Rattle.undo_journal.specs.Undo.{magic, entries, undoing, undone, durable, IsAtRest}
+use Rattle.undo_journal.proofs.Undone.{durable-at_rest, undone-at_rest}
 use Rattle.thread_tree.specs.Program.{Program, Template, Start}
 use Rattle.kernel_model.specs.Kernel as kernel
 use Rattle.kernel_model.specs.Kernel.{State}
@@ -21,7 +21,7 @@ use Rattle.kernel_image.specs.Decoded.{Decoded, decoded_of, image_in}
 use Rattle.kernel_image.specs.Initial.{initial_cell, initial_word}
 use Rattle.kernel_image.specs.Start.{IsFormatted}
 use Rattle.boot_recovery.proofs.Choices.{by_test}
-use Rattle.replay_list.specs.Kept.{IsKept, IsSaved, IsBlank, cost_of_row, cost, recovering, recovery_steps}
+use Rattle.replay_list.specs.Kept.{IsKept, cost_of_row, cost, recovering, recovery_steps}
 use Rattle.replay_list.specs.Stands.{Stands}
 use Rattle.boot_recovery.specs.Remaining.{age_in}
 
@@ -104,7 +104,6 @@ recovery_bound p words K old mid new kept most stepped = by_test (slice_index wo
 pub made_stands : (p : Program) (words new : List ℕ) → IsAtRest words → new ≡ undone words → image_in words ≡ decoded_of (initial_cell p) → Stands p (decoded_of (initial_cell p)) (initial p) → Stands p (image_in new) (initial p)
 made_stands p words new rest is image stands =
     subst (λ (d : Decoded). Stands p d (initial p)) (sym (ap (λ (ws : List ℕ). image_in ws) (is ∙ undone-at_rest words rest) ∙ image)) stands
-
 
 -- a blank device is kept for the start
 pub blank_is_kept : (p : Program) (words : List ℕ) → slice_index words 0 ≡ 0 → IsKept p words (initial p)

@@ -5,7 +5,7 @@ use Rattle.std.proofs.lemmas.Option.{none-some}
 use Rattle.std.proofs.lemmas.List.{take-append-drop, drop_more, get_or-drop, length-take-le}
 use Rattle.std.proofs.lemmas.List.Sums.{sum_by-cons}
 use Rattle.std.proofs.Math.Seq.{take-append_seam, drop-append_seam, drop-nil}
-use Rattle.std.specs.Prelude.{◌&&◌, if◌then◌else◌, Option, Some, None, sum_by, option_and_then, IsSomeAnd}
+use Rattle.std.specs.Prelude.{if◌then◌else◌, Option, Some, None, sum_by, option_and_then, IsSomeAnd}
 use Rattle.thread_tree.specs.declared.action.Call.{Call}
 use Rattle.thread_tree.specs.declared.action.Call.TheVariants as call
 use Rattle.thread_tree.specs.declared.block.Block.{Block}
@@ -17,7 +17,6 @@ use Rattle.thread_tree.specs.Kinds.{Action, action_of, action_layer, kind_of_cal
 use Rattle.thread_tree.specs.LocalState.{LocalState, move, next_statement, next_action, bind}
 use Rattle.thread_tree.specs.Ahead.{Ahead, Arrival, ahead, ahead_by, arrival_of, stops, goes_on}
 use Rattle.thread_tree.specs.Ahead.Arrival.{AtAction, Finished, Watchdog}
-use Rattle.thread_tree.specs.Relive as relive
 use Rattle.thread_tree.specs.Relive.{Record, Life, started, records, passed_by, passed, relived, opened, begun}
 use Rattle.kernel_model.specs.Kernel.{Thread}
 use Rattle.kernel_model.specs.Relived.{is_open, life_of, words_in}

@@ -2,8 +2,8 @@
 use Rattle.std.proofs.Common.{◌≡◌, ℕ, zero, suc, ◌+◌, ◌-◌, ◌<◌, ◌≤◌, ◌==◌, List, [], ◌∷◌, ◌++◌, Bool, true, false, refl, ap, sym, subst, ◌∙◌, arith, length, take, slice_index}
 use Rattle.std.proofs.lemmas.Bool.Decides.{nat_tests}
 use Rattle.std.proofs.lemmas.List.FromFn.{get_or-map-range_with_len}
-use Rattle.std.proofs.lemmas.Option.{none-some, slice_get_within, get_or_from_slice_get}
-use Rattle.std.specs.Prelude.{map, find, replicate, if◌then◌else◌, slice_get, slice_index_or, Option, Some, None, IfSome, ◌%◌}
+use Rattle.std.proofs.lemmas.Option.{slice_get_within, get_or_from_slice_get}
+use Rattle.std.specs.Prelude.{map, find, replicate, slice_get, slice_index_or, Option, Some, None, IfSome}
 use Rattle.std.specs.List.{enumerate_from, range_with_len, position_or_len}
 use Rattle.thread_tree.specs.Program as program
 use Rattle.thread_tree.specs.Program.{Program, Template, Start}
@@ -14,7 +14,7 @@ use Rattle.kernel_model.specs.Kernel as kernel
 use Rattle.kernel_model.specs.Kernel.Row.{Free, Live}
 use Rattle.kernel_model.specs.Numbers.{template_number}
 use Rattle.kernel_model.specs.Calls.{born}
-use Rattle.kernel_model.specs.Objects.{end_of, first_place, end_place, static_objects, object_at, block_size}
+use Rattle.kernel_model.specs.Objects.{end_of, first_place, static_objects, object_at}
 use Rattle.kernel_model.specs.Visible.{Object}
 use Rattle.kernel_model.specs.Run.{start_row, start_rows, initial}
 use Rattle.kernel_model.specs.Relived.{IsRelived}
@@ -22,14 +22,14 @@ use Rattle.kernel_model.specs.Sound.{IsSound, IsPacked}
 use Rattle.kernel_model.specs.Show.{visible}
 use Rattle.kernel_image.specs.Agree.{Agrees, Both}
 use Rattle.kernel_image.specs.Decoded.{RowWords, decoded_of, listed, row_of, queue_at, semaphore_at}
-use Rattle.kernel_image.specs.Shown.{items_of, shown, objects_in, byte_of}
+use Rattle.kernel_image.specs.Shown.{items_of, shown}
 use Rattle.kernel_image.specs.Initial.{initial_cell, initial_row_word, started_word, initial_heap_word, hole_word, first_hole, end_after}
 use Rattle.boot_recovery.proofs.Choices.{by_test}
 use Rattle.kernel_image.proofs.InitialRows.{initial-rows, initial-items, initial-semaphore}
 use Rattle.kernel_image.proofs.InitialObjects.{initial-objects}
 use Rattle.persistent_objects.specs.Holes.{AreHoles}
-use Rattle.replay_list.specs.Records.{start_in, values_in, recorded}
-use Rattle.replay_list.specs.Stands.{Stands, IsLife, HasLife, IsRow, items_in, counts_in, console_in}
+use Rattle.replay_list.specs.Records.{start_in, values_in}
+use Rattle.replay_list.specs.Stands.{Stands, IsLife, HasLife}
 
 -- a thread that is born is given back by its birth
 abbrev pub BornRelived : Program → Type 0

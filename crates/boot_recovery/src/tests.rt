@@ -45,11 +45,7 @@ fn one_thread(alloc: Global) -> Result<Tree, AllocError> {
 }
 
 // One recovery with a counter of its own.
-fn boot<N: Nv, L: Ledger>(
-    nv: N,
-    program: &Checked,
-    blank: Blank,
-) -> Result<Kernel<N>, Dark<N>>
+fn boot<N: Nv, L: Ledger>(nv: N, program: &Checked, blank: Blank) -> Result<Kernel<N>, Dark<N>>
     requires name { blank.name ≡ L.name }
     requires parts { blank.parts ≡ L.parts }
     requires some { 0 < L.parts }

@@ -1,4 +1,4 @@
-use Rattle.std.proofs.Common.{◌∙◌, ap, sym}
+use Rattle.std.proofs.Common.{◌∙◌, sym}
 use Rattle.boot_recovery.proofs.LifeLaws.{arrived_open, arrived_ready}
 use Rattle.boot_recovery.proofs.RowLaws.{row_word_0}
 use Rattle.boot_recovery.proofs.restoring.arrive.Goals as goal

@@ -1,4 +1,4 @@
-use Rattle.std.proofs.Common.{ℕ, ◌<◌, ◌≤◌, ◌∙◌, sym, subst, arith}
+use Rattle.std.proofs.Common.{ℕ, ◌<◌, ◌≤◌, ◌∙◌, sym, subst}
 use Rattle.boot_recovery.proofs.RowLaws.{row_word_15}
 use Rattle.boot_recovery.proofs.restoring.replay_all.Goals as goal
 
@@ -11,7 +11,7 @@ replay_record-from-requires-clause-more g c = (c.requires.more.0, c.requires.mor
 
 pub returns-clause-replayed : goal.returns-clause-replayed
 returns-clause-replayed g c = λ before known remains. (
-      c.loop-from.from,
-      subst (λ (m : ℕ). m ≤ c.loop-from.from) (c.load-used.ensures.word ∙ sym (row_word_15 _ c.args.thread c.requires.thread)) c.loop-from-test.false,
-      c.loop-from.invariant.goes before known remains,
-    )
+  c.loop-from.from,
+  subst (λ (m : ℕ). m ≤ c.loop-from.from) (c.load-used.ensures.word ∙ sym (row_word_15 _ c.args.thread c.requires.thread)) c.loop-from-test.false,
+  c.loop-from.invariant.goes before known remains,
+)

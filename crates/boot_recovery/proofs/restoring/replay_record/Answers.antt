@@ -1,9 +1,7 @@
-use Rattle.std.proofs.Common.{◌≡◌, ℕ, ◌+◌, ◌<◌, ◌≤◌, ◌∙◌, ap, sym, arith, slice_index}
-use Rattle.std.proofs.lemmas.Bool.Decides.{nat_tests}
+use Rattle.std.proofs.Common.{◌+◌, ◌<◌, ◌≤◌, ◌∙◌, ap, sym, arith}
 use Rattle.kernel_image.specs.Cells.{present}
 use Rattle.kernel_image.specs.Decoded.{image_in, row_at}
 use Rattle.thread_tree.specs.Program.{program_of}
-use Rattle.thread_machine.specs.Context.{local_of}
 use Rattle.replay_list.specs.Records.{results_of}
 use Rattle.boot_recovery.proofs.LifeLaws.{one_turn, turn_action, turned_to}
 use Rattle.boot_recovery.proofs.RowLaws.{records_sized, record_word, record_cell}

@@ -1,4 +1,4 @@
-use Rattle.std.proofs.Common.{◌≡◌, ℕ, ◌+◌, ◌<◌, ◌≤◌, ◌∙◌, List, take, length, ap, sym, subst, arith}
+use Rattle.std.proofs.Common.{◌+◌, ◌∙◌, List, take, length, ap, sym, subst, arith}
 use Rattle.std.proofs.lemmas.List.{length-set, take_all}
 use Rattle.std.proofs.lemmas.List.Sums.{sum_by_more}
 use Rattle.std.specs.Prelude.{slice_index_or, sum_by, Option}

@@ -1,4 +1,4 @@
-use Rattle.std.proofs.Common.{◌≡◌, ◌≤◌, ◌<◌, ◌∙◌, sym, arith}
+use Rattle.std.proofs.Common.{◌∙◌, sym, arith}
 use Rattle.thread_tree.specs.Program.{program_of}
 use Rattle.kernel_image.specs.Cells.{present}
 use Rattle.kernel_image.specs.Decoded.{image_in, row_at}
