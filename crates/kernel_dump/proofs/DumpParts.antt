@@ -1,11 +1,9 @@
 -- A dump of what an image shows, in the parts that are put one after another.
-use Rattle.std.proofs.Common.{◌≡◌, ℕ, ◌≤◌, List, [], ◌∷◌, ◌++◌, length, refl, sym, ◌∙◌, ap, arith, append_assoc, append-nil}
+use Rattle.std.proofs.Common.{◌≡◌, ℕ, ◌≤◌, List, [], ◌∷◌, ◌++◌, length, sym, ◌∙◌, ap, arith, append_assoc, append-nil}
 use Rattle.std.proofs.lemmas.List.FromFn.{length-map-range_with_len}
 use Rattle.std.specs.Prelude.{map}
 use Rattle.std.specs.List.{enumerate_from}
 use Rattle.thread_tree.specs.Program.{Program}
-use Rattle.thread_tree.specs.Program as program
-use Rattle.kernel_model.specs.Calls.{console_room}
 use Rattle.kernel_model.specs.Dump.{console_line, console_lines, console_size_line, dump_lines, events_line, object_lines, ready_lines, row_lines, text_of, ticks_line}
 use Rattle.kernel_model.specs.Kernel.{State}
 use Rattle.kernel_model.specs.Names.{Names}

@@ -1,5 +1,5 @@
 -- The lines of objects, out of the words of the heap.
-use Rattle.std.proofs.Common.{◌≡◌, ℕ, zero, suc, ◌+◌, ◌-◌, ◌*◌, ◌%◌, ◌<◌, ◌≤◌, Bool, true, false, List, [], ◌∷◌, ◌++◌, length, drop, refl, sym, ◌∙◌, ap, subst, arith, append_assoc, append-nil, cond, codes, if◌then◌else◌}
+use Rattle.std.proofs.Common.{◌≡◌, ℕ, suc, ◌+◌, ◌-◌, ◌*◌, ◌%◌, ◌<◌, ◌≤◌, Bool, true, false, List, [], ◌∷◌, ◌++◌, length, drop, refl, sym, ◌∙◌, ap, arith, append_assoc, append-nil, cond, codes, if◌then◌else◌}
 use Rattle.std.proofs.Math.Seq.{drop-cons}
 use Rattle.std.proofs.Math.ListN.{drop_of_length-le}
 use Rattle.std.proofs.lemmas.List.{get_or_past}
@@ -11,7 +11,7 @@ use Rattle.thread_tree.specs.declared.tree.Decl.{Decl}
 use Rattle.thread_tree.specs.declared.tree.Tree.{Tree}
 use Rattle.thread_tree.specs.Program.{Program, program_of}
 use Rattle.kernel_model.specs.Dump.{object_line, object_lines}
-use Rattle.kernel_model.specs.Names.{Names, Kind, kind_of, name_of}
+use Rattle.kernel_model.specs.Names.{Names, Kind, kind_of}
 use Rattle.kernel_model.specs.Numbers.{fields_of}
 use Rattle.kernel_model.specs.Show.{bytes_of, names_of}
 use Rattle.kernel_model.specs.Visible.{Object}

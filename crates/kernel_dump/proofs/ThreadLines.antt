@@ -10,8 +10,7 @@ use Rattle.kernel_model.specs.Visible.{Row, free_row}
 use Rattle.kernel_model.specs.declared.row_state.RowState.{RowState}
 use Rattle.kernel_model.specs.declared.row_state.RowState.TheVariants.{Free, Ready, Delayed, Waiting, Ended}
 use Rattle.kernel_image.specs.declared.cell.Cell.{Cell}
-use Rattle.kernel_image.specs.declared.cell.Cell.TheVariants.{RowWord}
-use Rattle.kernel_image.specs.Decoded.{Decoded, RowWords, blank_row, decoded_of, listed, row_at, row_of}
+use Rattle.kernel_image.specs.Decoded.{RowWords, blank_row, decoded_of, listed, row_at, row_of}
 use Rattle.kernel_image.specs.Shown.{free, ready, delayed, waiting, wait_of, shown_row, state_of}
 
 -- by whether a test holds

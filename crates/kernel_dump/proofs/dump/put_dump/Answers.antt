@@ -1,4 +1,3 @@
-use Rattle.std.proofs.Common.{◌≡◌, ◌≤◌}
 use Rattle.std.proofs.lemmas.Result.{err_from_is_err_and}
 use Rattle.thread_tree.specs.Program.{program_of}
 use Rattle.kernel_model.specs.Show.{names_of}
