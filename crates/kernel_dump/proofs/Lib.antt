@@ -1,0 +1,12 @@
+pub mod ConsoleBytes
+pub mod ConsoleLines
+pub mod Declarations
+pub mod DumpParts
+pub mod LawSets
+pub mod Looped
+pub mod ObjectLines
+pub mod PutInParts
+pub mod Spaced
+pub mod ThreadLines
+pub mod Urgencies
+pub mod Walks

@@ -1,0 +1,17 @@
+//! The dump: what the words of a device show of the kernel of a program, line by line.
+#![tactic(auto)]
+
+mod console;
+mod dump;
+mod line;
+mod names;
+mod objects;
+mod ready;
+mod rows;
+mod sort;
+
+pub use dump::put_dump;
+pub use line::Line;
+
+#[cfg(test)]
+mod tests;
