@@ -1,0 +1,5 @@
+pub mod PrintLemmas
+pub mod StepLaws
+pub mod BothLemmas
+pub mod FollowLaws
+pub mod EndLaws
