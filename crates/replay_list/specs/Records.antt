@@ -1,5 +1,6 @@
 -- The records of a thread as the words of its row.
-use Rattle.std.specs.Prelude.{◌≡◌, ℕ, ◌+◌, ◌-◌, ◌/◌, ◌%◌, ◌==◌, if◌then◌else◌, List, [], ◌∷◌, ◌++◌, length, take, drop, slice_index}
+use Rattle.std.specs.Prelude.{◌≡◌, ℕ, ◌+◌, ◌-◌, ◌/◌, ◌%◌, ◌==◌, if◌then◌else◌, List, [], ◌∷◌, ◌++◌, length, take}
+use Rattle.std.specs.List.{AllByRecursion}
 use Rattle.thread_tree.specs.Kinds.{result_count}
 use Rattle.thread_tree.specs.Relive.{Start, Record}
 use Rattle.thread_tree.specs.Relive.Start.{Birth, Loop}
@@ -13,6 +14,14 @@ encoded (r ∷ rs) = r.kind ∷ (r.results ++ encoded rs)
 -- how many results a record has that begins with this kind word
 abbrev pub results_of : ℕ → ℕ
 results_of kind_word = result_count (kind_word % 256) (kind_word / 256)
+
+-- a record has as many results as its kind word says
+abbrev pub IsFit : Record → Type 0
+IsFit r = results_of r.kind ≡ length r.results
+
+-- each record has
+abbrev pub AreFit : List Record → Type 0
+AreFit rs = AllByRecursion IsFit rs
 
 -- the words of a row's records
 abbrev pub recorded : RowWords → List ℕ

@@ -1,5 +1,5 @@
 -- When the image stands for a state of the kernel, and the contexts beside it.
-use Rattle.std.specs.Prelude.{◌≡◌, ℕ, ◌+◌, ◌*◌, ◌≤◌, ⊤, List, map, length, Option, Some, None}
+use Rattle.std.specs.Prelude.{◌≡◌, ℕ, ◌+◌, ◌*◌, ◌≤◌, ⊤, List, map, Option, Some, None}
 use Rattle.std.specs.List.{enumerate_from}
 use Rattle.thread_tree.specs.Program.{Program}
 use Rattle.thread_tree.specs.Relive.{Record}

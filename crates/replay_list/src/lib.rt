@@ -1,10 +1,16 @@
 //! The records of threads, and when words and contexts stand for a state of the kernel.
 #![tactic(auto)]
 
+mod appending;
 mod kernel;
+mod laws;
 mod outcome;
+mod reading;
 mod record;
 
+pub use appending::{append, clear};
 pub use kernel::Kernel;
+pub use laws::standing_laws;
 pub use outcome::Outcome;
+pub use reading::{record_at, record_count, words_used};
 pub use record::Record;

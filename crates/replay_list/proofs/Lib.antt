@@ -1,0 +1,12 @@
+pub mod LawSets
+pub mod KindLaws
+pub mod WordLaws
+pub mod RecordLaws
+pub mod AppendLaws
+pub mod BothLaws
+pub mod ShownLaws
+pub mod LifeLaws
+pub mod KeptLaws
+pub mod CountLaws
+pub mod RowLaws
+pub mod Callers
