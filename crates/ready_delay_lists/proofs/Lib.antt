@@ -1,0 +1,3 @@
+mod Agreeing
+mod BestLaws
+pub mod LawSets

@@ -1,0 +1,76 @@
+// The ready threads.
+ghost use Rattle.std.specs.Prelude.{◌≡◌, ◌+◌, ◌<◌, ◌≤◌, ◌↔◌, IsTrue, IfSome};
+ghost use Rattle.thread_tree.specs.Program.{Program};
+ghost use Rattle.kernel_model.specs.Kernel.{State};
+ghost use Rattle.kernel_model.specs.Order as order_of_threads;
+ghost use Rattle.kernel_model.specs.Sound.{IsSound};
+ghost use Rattle.kernel_image.specs.Agree.{Agrees, Both};
+ghost use Rattle.kernel_image.specs.Decoded.{image_in, row_at};
+ghost use Rattle.ready_delay_lists.specs.Best.{IsReady, IsBest, comes_before};
+
+use kernel_image::{Cell, load};
+use kernel_model::order;
+use undo_journal::Words;
+
+// Whether a thread is ready.
+#[tactic(auto, using(kernel_image::proofs::Callers::image_laws))]
+fn is_ready<W: Words>(words: &W, thread: u32) -> bool
+    requires thread { thread < 16 }
+    ensures ready { IsTrue result ↔ IsReady (image_in (W.present words.now)) thread }
+{
+    load(words, Cell::RowWord(thread, 0)) == 1
+}
+
+// Whether a thread is more urgent than another: of a greater priority, or of the same and with a lesser stamp.
+#[tactic(auto, using(kernel_image::proofs::Callers::image_laws), unfolding(crate::specs::Best::comes_before))]
+fn comes_before<W: Words>(words: &W, thread: u32, other: u32) -> bool
+    requires thread { thread < 16 }
+    requires other { other < 16 }
+    ensures before { result ≡ comes_before (image_in (W.present words.now)) thread other }
+{
+    let priority = load(words, Cell::RowWord(thread, 2));
+    let other_priority = load(words, Cell::RowWord(other, 2));
+    let stamp = load(words, Cell::RowWord(thread, 8));
+    let other_stamp = load(words, Cell::RowWord(other, 8));
+    other_priority < priority || (priority == other_priority && stamp < other_stamp)
+}
+
+// The best of the rows up to this one, from the best of those before it.
+#[tactic(auto, using(crate::proofs::LawSets::best_laws))]
+fn best_with<W: Words>(words: &W, best: Option<u32>, thread: u32) -> Option<u32>
+    requires thread { thread < 16 }
+    requires best { IsBest (image_in (W.present words.now)) thread best }
+    requires within { IfSome best (λ t. t < 16) }
+    ensures best { IsBest (image_in (W.present words.now)) (thread + 1) result }
+    ensures within { IfSome result (λ t. t < 16) }
+{
+    if !is_ready(words, thread) {
+        return best;
+    }
+    match best {
+        None => Some(thread),
+        Some(first) => {
+            if comes_before(words, thread, first) {
+                Some(thread)
+            } else {
+                Some(first)
+            }
+        }
+    }
+}
+
+/// The ready thread that a step runs: the one of the greatest priority, and among equals the one that stands first in
+/// its ready list, which has the least stamp. `None` exactly where nobody is ready.
+#[tactic(auto, using(crate::proofs::LawSets::best_laws))]
+pub fn chosen<W: Words>(words: &W) -> Option<u32>
+    ensures chosen { (p : Program) (K : State) → IsSound p K → Both Agrees (image_in (W.present words.now)).rows K.rows → result ≡ order_of_threads.chosen K }
+    ensures thread { IfSome result (λ t. t < 16) }
+    ensures ready { IfSome result (λ t. (row_at (image_in (W.present words.now)) t).state ≡ 1) }
+{
+    order();
+    let mut best = None;
+    for thread in 0..16 {
+        best = best_with(words, best, thread);
+    }
+    best
+}
