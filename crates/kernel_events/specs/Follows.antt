@@ -1,15 +1,18 @@
 -- An event on the image: what stands before a thread's action, and what is left behind it.
-use Rattle.std.specs.Prelude.{◌≡◌, ℕ, ◌+◌, ◌*◌, ◌≤◌, List, Option, Some, slice_set}
+use Rattle.std.specs.Prelude.{◌≡◌, ℕ, ◌+◌, ◌*◌, ◌<◌, ◌≤◌, List, Option, Some, None, slice_set}
 use Rattle.thread_tree.specs.Ahead.{ahead}
 use Rattle.thread_tree.specs.Program.{Program}
 use Rattle.thread_machine.specs.declared.context.Ctx.{Ctx}
+use Rattle.thread_machine.specs.declared.next.Next.{Next}
 use Rattle.thread_machine.specs.Context.{local_of}
+use Rattle.thread_machine.specs.Next.{IsNext}
 use Rattle.thread_machine.specs.Reached.{IsContext}
 use Rattle.kernel_model.specs.Kernel.{Thread, State, thread_of}
 use Rattle.kernel_model.specs.Kernel.Activity.{Ready}
 use Rattle.kernel_model.specs.Objects.{first_place}
+use Rattle.kernel_model.specs.Order.{chosen}
 use Rattle.kernel_image.specs.Agree.{Both}
-use Rattle.kernel_image.specs.Decoded.{Decoded, RowWords, row_at, with_row}
+use Rattle.kernel_image.specs.Decoded.{Decoded}
 use Rattle.kernel_image.specs.Shown.{objects_in}
 use Rattle.persistent_objects.specs.Holes.{AreHoles}
 use Rattle.replay_list.specs.Stands.{IsRow, HasContext, KernelStands, items_in, counts_in, console_in}
@@ -28,14 +31,16 @@ pub record Follows (p : Program) (d : Decoded) (contexts : List (Option Ctx)) (K
   pub few_stamps : K.stamp ≤ 16 + 17 * K.events
   pub restored : Both (HasContext p) contexts K.rows
 
--- the image and the contexts stand for a kernel, and this context for the state in which a ready thread of it arrives
-pub record IsRunning (p : Program) (d : Decoded) (contexts : List (Option Ctx)) (K : State) (t : ℕ) (thread : Thread) (ctx : Ctx) : Type 0 where
-  pub stands : KernelStands p d contexts K
+-- the image stands for a kernel whose chosen thread runs ahead: its context was taken from beside the others, stands for
+-- the state in which the thread arrives, and says where that is
+pub record Arrives (p : Program) (d : Decoded) (contexts : List (Option Ctx)) (K : State) (t : ℕ) (thread : Thread) (ctx : Ctx) (next : Next) : Type 0 where
+  pub before : List (Option Ctx)
+  pub stands : KernelStands p d before K
+  pub taken : contexts ≡ slice_set before t None
+  pub early : K.events < 1000000
+  pub chosen : chosen K ≡ Some t
   pub lives : thread_of K t ≡ Some thread
   pub ready : thread.activity ≡ Ready
   pub arrived : local_of p ctx ≡ (ahead p thread.local).local
+  pub arrival : IsNext p (ahead p thread.local).arrival next
   pub context : IsContext p ctx
-
--- one event more is counted, the row of a thread has these words, and else the console and the heap alone may differ
-pub record IsCounted (d : Decoded) (t : ℕ) (row : RowWords) (new : Decoded) : Type 0 where
-  pub rest : record new { console_length = d.console_length; console = d.console; heap = d.heap } ≡ record (with_row d t row) { events = d.events + 1 }

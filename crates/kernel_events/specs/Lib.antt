@@ -1,4 +1,3 @@
 pub mod Follows
-pub mod Stub
 pub mod Actions
 pub mod Ends

@@ -20,7 +20,7 @@ ghost use Rattle.kernel_events.specs.Actions.{IsPrinted, print_action};
 use crate::ending::count;
 use crate::printing::printed_line;
 use crate::serving::serve;
-use crate::stub::append_bytes;
+use console_store::append as append_bytes;
 use nv_memory::{Cut, Nv};
 use thread_check::Checked;
 use thread_machine::Ctx;

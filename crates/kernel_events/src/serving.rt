@@ -11,8 +11,8 @@ ghost use Rattle.thread_machine.specs.Reached.{IsContext};
 ghost use Rattle.kernel_image.specs.Decoded.{image_in, row_at};
 ghost use Rattle.replay_list.specs.Records.{IsAppended};
 
-use crate::stub::append;
 use nv_memory::{Cut, Nv};
+use replay_list::append;
 use thread_check::Checked;
 use thread_machine::Ctx;
 use undo_journal::Open;
