@@ -2,7 +2,7 @@
 ghost use Rattle.std.specs.Prelude.{◌≡◌, ◌+◌, ◌<◌, ◌≤◌, ◌↔◌, IsTrue, IfSome};
 ghost use Rattle.thread_tree.specs.Program.{Program};
 ghost use Rattle.kernel_model.specs.Kernel.{State};
-ghost use Rattle.kernel_model.specs.Order as order_of_threads;
+ghost use Rattle.kernel_model.specs.Order.{chosen};
 ghost use Rattle.kernel_model.specs.Sound.{IsSound};
 ghost use Rattle.kernel_image.specs.Agree.{Agrees, Both};
 ghost use Rattle.kernel_image.specs.Decoded.{image_in, row_at};
@@ -63,7 +63,7 @@ fn best_with<W: Words>(words: &W, best: Option<u32>, thread: u32) -> Option<u32>
 /// its ready list, which has the least stamp. `None` exactly where nobody is ready.
 #[tactic(auto, using(crate::proofs::LawSets::best_laws))]
 pub fn chosen<W: Words>(words: &W) -> Option<u32>
-    ensures chosen { (p : Program) (K : State) → IsSound p K → Both Agrees (image_in (W.present words.now)).rows K.rows → result ≡ order_of_threads.chosen K }
+    ensures chosen { (p : Program) (K : State) → IsSound p K → Both Agrees (image_in (W.present words.now)).rows K.rows → result ≡ chosen K }
     ensures thread { IfSome result (λ t. t < 16) }
     ensures ready { IfSome result (λ t. (row_at (image_in (W.present words.now)) t).state ≡ 1) }
 {

@@ -1,0 +1,9 @@
+mod Rules
+mod Induction
+mod Layers
+mod Gives
+mod Kept
+mod Spots
+mod Declared
+mod Moves
+mod Lives

@@ -1,0 +1,92 @@
+-- What a small action is: few items, few names, and in a block as many values wherever it gives.
+use Rattle.std.specs.Prelude.{◌≡◌, ℕ, ◌-◌, ◌==◌, ◌≤◌, ◌&&◌, Bool, true, ⊤, List, [], ◌∷◌, length, map, Option, Some, None}
+use Rattle.thread_tree.specs.declared.place.At.{At}
+use Rattle.thread_tree.specs.declared.action.Call.{Call}
+use Rattle.thread_tree.specs.declared.action.Call.TheVariants as call
+use Rattle.thread_tree.specs.declared.block.Block.{Block}
+use Rattle.thread_tree.specs.declared.block.Stmt.{Stmt}
+use Rattle.thread_tree.specs.declared.block.Stmt.TheOpen.{Stmt-F}
+use Rattle.thread_tree.specs.declared.block.Stmt.TheOpen as stmt
+use Rattle.thread_tree.specs.declared.transaction.TBlock.{TBlock, fold-TBlock}
+use Rattle.thread_tree.specs.declared.transaction.TStmt.{TStmt, fold-TStmt}
+use Rattle.thread_tree.specs.declared.transaction.TStmt.TheOpen.{TStmt-F, TBlock-F}
+use Rattle.thread_tree.specs.declared.transaction.TStmt.TheOpen as tstmt
+
+-- whether all of these hold
+abbrev pub all_hold : List Bool → Bool
+all_hold [] = true
+all_hold (b ∷ bs) = b && all_hold bs
+
+-- whether a block that may be left out passes a test
+abbrev pub holds_if_some : {B : Type 0} → (B → Bool) → Option B → Bool
+holds_if_some test None = true
+holds_if_some test (Some block) = test block
+
+-- whether a statement of a transaction gives so many values wherever it gives, by its layer, where `block` is the test
+-- of the blocks in it
+abbrev pub gives_layer : {S B : Type 0} → ℕ → (B → Bool) → TStmt-F S B → Bool
+gives_layer given block (tstmt.Let at e) = true
+gives_layer given block (tstmt.LetNew at kind) = true
+gives_layer given block (tstmt.Set at e) = true
+gives_layer given block (tstmt.SetNew at kind) = true
+gives_layer given block (tstmt.Store field e) = true
+gives_layer given block (tstmt.Free e) = true
+gives_layer given block (tstmt.If e then_block else_block) = block then_block && holds_if_some block else_block
+gives_layer given block (tstmt.While e body) = block body
+gives_layer given block (tstmt.Break place) = true
+gives_layer given block (tstmt.Abort place) = true
+gives_layer given block (tstmt.Give place es) = length es == given
+
+-- whether a block does, by its layer
+abbrev pub gives_block_layer : {B : Type 0} → TBlock-F Bool B → Bool
+gives_block_layer block = all_hold block.stmts
+
+-- whether a statement gives so many values wherever it gives
+unfoldable pub statement_gives : ℕ → TStmt → Bool
+statement_gives given = fold-TStmt Bool Bool (gives_layer given (λ test. test)) gives_block_layer
+
+-- whether a block does
+unfoldable pub block_gives : ℕ → TBlock → Bool
+block_gives given = fold-TBlock Bool Bool (gives_layer given (λ test. test)) gives_block_layer
+
+-- whether a statement does, by what it is made of
+abbrev pub statement_parts_give : ℕ → TStmt-F TStmt TBlock → Bool
+statement_parts_give given s = gives_layer given (block_gives given) s
+
+-- whether a block does, by what it is made of
+abbrev pub block_parts_give : ℕ → TBlock-F TStmt TBlock → Bool
+block_parts_give given block = all_hold (map (statement_gives given) block.stmts)
+
+-- an `atomic` block with few names, of which all but the first take what it gives
+pub record IsSmallBlock (to : List At) (body : TBlock) : Type 0 where
+  pub few : length to ≤ 4
+  pub gives : block_gives (length to - 1) body ≡ true
+
+-- a print has few items
+abbrev pub IsSmallCall : Call → Type 0
+IsSmallCall (call.Print items) = length items ≤ 8
+IsSmallCall (call.Spawn template arguments) = ⊤
+IsSmallCall (call.Delete whom) = ⊤
+IsSmallCall (call.Delay ticks) = ⊤
+IsSmallCall (call.Setprio whom priority) = ⊤
+IsSmallCall (call.Getprio whom) = ⊤
+IsSmallCall (call.Send queue value limit) = ⊤
+IsSmallCall (call.Receive queue limit) = ⊤
+IsSmallCall (call.Take semaphore limit) = ⊤
+IsSmallCall (call.Give semaphore) = ⊤
+IsSmallCall call.Now = ⊤
+IsSmallCall call.Yield = ⊤
+IsSmallCall (call.Waiting queue) = ⊤
+
+-- a small action; a statement that is no action is small
+abbrev pub IsSmallAction : Stmt-F Stmt Block → Type 0
+IsSmallAction (stmt.Let at e) = ⊤
+IsSmallAction (stmt.Set at e) = ⊤
+IsSmallAction (stmt.Apply to callee arguments) = ⊤
+IsSmallAction (stmt.If e block other) = ⊤
+IsSmallAction (stmt.While e block) = ⊤
+IsSmallAction (stmt.Ploop place block) = ⊤
+IsSmallAction (stmt.Break place) = ⊤
+IsSmallAction (stmt.Return place value) = ⊤
+IsSmallAction (stmt.Atomic place to body) = IsSmallBlock to body
+IsSmallAction (stmt.Call place call to) = IsSmallCall call

@@ -1,0 +1,6 @@
+use super::*;
+
+#[test]
+fn the_law_does_nothing() {
+    small_actions();
+}
