@@ -3,7 +3,7 @@ use Rattle.replay_list.proofs.BothLaws.{both_length, both_get, both_get_or, both
 use Rattle.replay_list.proofs.ShownLaws.{rows_agree, shows_parts}
 use Rattle.replay_list.proofs.LifeLaws.{encoded_more, life_more, life_kept, agrees_recorded, agrees_ended}
 use Rattle.replay_list.proofs.CountLaws.{counts_records}
-use Rattle.replay_list.proofs.RowLaws.{row_live, context_live, context_served, context_ended}
+use Rattle.replay_list.proofs.RowLaws.{row_live, context_live, context_served, context_ended, records_live}
 use Rattle.replay_list.proofs.KeptLaws.{kept_at_rest, kept_durable, kept_counter}
 
 -- two lists, element by element
@@ -16,7 +16,7 @@ pub ruleset shown_laws = (rows_agree, shows_parts)
 pub ruleset life_laws = (encoded_more, life_more, life_kept, agrees_recorded, agrees_ended)
 
 -- the records of a live thread
-pub ruleset count_laws = (counts_records)
+pub ruleset count_laws = (counts_records, records_live)
 
 -- the rows and the contexts of live threads
 pub ruleset row_laws = (row_live, context_live, context_served, context_ended)

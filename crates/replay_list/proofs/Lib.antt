@@ -9,4 +9,5 @@ pub mod LifeLaws
 pub mod KeptLaws
 pub mod CountLaws
 pub mod RowLaws
+pub mod StandsAt
 pub mod Callers

@@ -31,11 +31,11 @@ next_is (r ∷ rs) (suc count) from fit at within =
     let behind : from ≡ suc (length r.results + rest) = omega (arith, at, done) in
     let law = next_is rs count rest fit.1 (omega (arith, at, done)) (omega (arith, within, all, at, done)) in
     let word : slice_index (encoded (r ∷ rs)) from ≡ slice_index (encoded rs) rest =
-        ap (λ n. slice_index (encoded (r ∷ rs)) n) behind ∙ get_or-append-add r.results (encoded rs) rest 0 in
+    ap (λ n. slice_index (encoded (r ∷ rs)) n) behind ∙ get_or-append-add r.results (encoded rs) rest 0 in
     let one : suc count + 1 ≡ suc (count + 1) = omega arith in
     let after = length-append r.results (encoded (take (count + 1) rs)) in
     let last : length (encoded (take (suc count + 1) (r ∷ rs))) ≡ suc (length (r.results ++ encoded (take (count + 1) rs))) =
-        ap (λ n. length (encoded (take n (r ∷ rs)))) one in
+    ap (λ n. length (encoded (take n (r ∷ rs)))) one in
     let step : from + 1 + results_of (slice_index (encoded rs) rest) ≡ suc (length (r.results ++ encoded (take (count + 1) rs))) = omega (arith, behind, law.1, after) in
     (omega (arith, law.0), ap (λ w. from + 1 + results_of w) word ∙ step ∙ sym last)
 

@@ -1,14 +1,17 @@
 -- The row and the context of a live thread.
-use Rattle.std.proofs.Common.{◌≡◌, ℕ, zero, suc, List, [], ◌∷◌, Option, Some, None, refl, ap, sym, subst, ◌∙◌}
+use Rattle.std.proofs.Common.{◌≡◌, ℕ, zero, suc, ◌<◌, ◌≤◌, length, arith, List, [], ◌∷◌, Option, Some, None, refl, ap, sym, subst, ◌∙◌}
 use Rattle.std.specs.Prelude.{slice_get, slice_index_or, slice_set, option_and_then}
 use Rattle.thread_machine.specs.declared.context.Ctx.{Ctx}
 use Rattle.thread_tree.specs.Program.{Program}
 use Rattle.kernel_model.specs.Kernel as kernel
-use Rattle.kernel_model.specs.Kernel.{Thread, live_in}
+use Rattle.kernel_model.specs.Kernel.{State, Thread, live_in, thread_of}
 use Rattle.kernel_model.specs.Kernel.Row.{Free, Ended, Live}
+use Rattle.kernel_model.specs.Sound.{IsSoundRow}
 use Rattle.kernel_image.specs.Agree.{Both}
-use Rattle.kernel_image.specs.Decoded.{RowWords, blank_row}
-use Rattle.replay_list.specs.Stands.{IsRow, HasContext, IsContextOf}
+use Rattle.kernel_image.specs.Decoded.{Decoded, RowWords, blank_row, row_at}
+use Rattle.replay_list.specs.Stands.{Stands, IsLife, IsRow, HasContext, IsContextOf}
+use Rattle.replay_list.specs.Records.{HasRecords}
+use Rattle.replay_list.proofs.CountLaws.{counts_records}
 use Rattle.replay_list.proofs.BothLaws.{both_set}
 
 -- the row of a live thread
@@ -62,3 +65,32 @@ none-there p (Live thread) e = absurd (let f : ◌≡◌ {A = Option Thread} Non
 
 pub context_ended : (p : Program) (contexts : List (Option Ctx)) (krows : List kernel.Row) (t : ℕ) (r : kernel.Row) → Both (HasContext p) contexts krows → live_in r ≡ None → Both (HasContext p) (slice_set contexts t None) (slice_set krows t r)
 context_ended p contexts krows t r both e = both_set (HasContext p) contexts krows t None r both (none-there p r e)
+
+-- a live thread is one of the rows
+live_within : (krows : List kernel.Row) (t : ℕ) (thread : Thread) → live_in (slice_index_or krows t Free) ≡ Some thread → t < length krows
+live_within [] t thread e = absurd (let f : ◌≡◌ {A = Option Thread} None (Some thread) = e in cc)
+live_within (k ∷ krows) zero thread e = omega arith
+live_within (k ∷ krows) (suc t) thread e = let rest = live_within krows t thread e in omega (arith, rest)
+
+-- a live thread of a kernel owes no more than the records have room for
+live-paid : (p : Program) (ticks : ℕ) (queues : List (List ℕ)) (counts : List ℕ) (r : kernel.Row) (thread : Thread) → IsSoundRow p ticks queues counts r → live_in r ≡ Some thread → thread.debt ≤ 256
+live-paid p ticks queues counts Free thread sound e = absurd (let f : ◌≡◌ {A = Option Thread} None (Some thread) = e in cc)
+live-paid p ticks queues counts (Ended template priority code) thread sound e = absurd (let f : ◌≡◌ {A = Option Thread} None (Some thread) = e in cc)
+live-paid p ticks queues counts (Live own) thread sound e =
+    let f : ◌≡◌ {A = Option Thread} (Some own) (Some thread) = e in
+    let same : own ≡ thread = cc in
+    subst (λ (t : Thread). t.debt ≤ 256) same sound.paid
+
+-- the records of a live thread of the kernel that an image stands for
+pub records_live : (p : Program) (d : Decoded) (K : State) (t : ℕ) (thread : Thread) → Stands p d K → thread_of K t ≡ Some thread → HasRecords (row_at d t) thread.passed
+records_live p d K t thread stands e =
+    let life : IsLife p (row_at d t) thread = (row_live p d.rows K.rows t thread stands.rows e).1 in
+    let law = counts_records p (row_at d t) thread life in
+    let paid = live-paid p K.ticks K.queues K.counts (slice_index_or K.rows t Free) thread (stands.sound.rows.each t Free (live_within K.rows t thread e)) e in
+    record {
+      records = life.records;
+      words = life.words;
+      fit = law.0;
+      many = law.1;
+      few = omega (arith, life.used, paid);
+    }

@@ -1,3 +1,4 @@
 pub mod Records
 pub mod Stands
 pub mod Kept
+pub mod Finished

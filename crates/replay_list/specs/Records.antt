@@ -1,5 +1,5 @@
 -- The records of a thread as the words of its row.
-use Rattle.std.specs.Prelude.{◌≡◌, ℕ, ◌+◌, ◌-◌, ◌/◌, ◌%◌, ◌==◌, if◌then◌else◌, List, [], ◌∷◌, ◌++◌, length, take}
+use Rattle.std.specs.Prelude.{◌≡◌, ℕ, ◌+◌, ◌≤◌, ◌-◌, ◌/◌, ◌%◌, ◌==◌, if◌then◌else◌, List, [], ◌∷◌, ◌++◌, length, take}
 use Rattle.std.specs.List.{AllByRecursion}
 use Rattle.thread_tree.specs.Kinds.{result_count}
 use Rattle.thread_tree.specs.Relive.{Start, Record}
@@ -45,3 +45,11 @@ pub record IsRecorded (kind : ℕ) (results : List ℕ) (old new : RowWords) : T
 pub record IsAppended (thread kind : ℕ) (results : List ℕ) (old new : Decoded) : Type 0 where
   pub row : IsRecorded kind results (row_at old thread) (row_at new thread)
   pub rest : new ≡ with_row old thread (row_at new thread)
+
+-- a row has so many records, and their words lie within the 256
+pub record HasRecords (row : RowWords) (count : ℕ) : Type 0 where
+  pub records : List Record
+  pub words : recorded row ≡ encoded records
+  pub fit : AreFit records
+  pub many : count ≡ length records
+  pub few : row.used ≤ 256

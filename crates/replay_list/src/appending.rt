@@ -43,7 +43,12 @@ fn store_used<N: Nv>(tx: &mut Open<N>, thread: u32, used: u32) -> Result<(), Cut
 }
 
 // Stores words of the records of a thread, one after another.
-fn store_results<N: Nv>(tx: &mut Open<N>, thread: u32, from: u32, results: &[u32]) -> Result<(), Cut>
+fn store_results<N: Nv>(
+    tx: &mut Open<N>,
+    thread: u32,
+    from: u32,
+    results: &[u32],
+) -> Result<(), Cut>
     requires thread { thread < 16 }
     requires few { length results.now ≤ 4 }
     requires fits { from + length results.now ≤ 256 }
@@ -64,7 +69,12 @@ fn store_results<N: Nv>(tx: &mut Open<N>, thread: u32, from: u32, results: &[u32
 /// Appends a record to those of a thread, 0 to 15: its kind word, its results, and then the words used. On `Cut`
 /// fewer than 24 writes were left, and none is left.
 #[tactic(auto, using(undo_journal::proofs::Callers::lending_laws, undo_journal::proofs::Callers::weakening_laws))]
-pub fn append<N: Nv>(tx: &mut Open<N>, thread: u32, kind_word: u32, results: &[u32]) -> Result<(), Cut>
+pub fn append<N: Nv>(
+    tx: &mut Open<N>,
+    thread: u32,
+    kind_word: u32,
+    results: &[u32],
+) -> Result<(), Cut>
     requires thread { thread < 16 }
     requires few { length results.now ≤ 4 }
     requires fits { (row_at (image_in (N.words tx.old)) thread).used + 1 + length results.now ≤ 256 }

@@ -21,7 +21,7 @@ ghost use Rattle.kernel_image.specs.Agree.{Agrees, Both};
 ghost use Rattle.kernel_image.specs.Decoded.{Decoded, RowWords, image_in, row_at};
 ghost use Rattle.kernel_image.specs.Shown.{objects_in, shown};
 ghost use Rattle.replay_list.specs.Kept.{IsKept, counter_of};
-ghost use Rattle.replay_list.specs.Records.{encoded, recorded, start_in, AreFit, IsRecorded};
+ghost use Rattle.replay_list.specs.Records.{encoded, recorded, start_in, AreFit, HasRecords, IsRecorded};
 ghost use Rattle.replay_list.specs.Stands.{Stands, IsRow, IsLife, IsContextOf, HasContext, items_in, counts_in, console_in};
 
 use kernel_model::replay;
@@ -48,6 +48,7 @@ pub fn standing_laws()
     ensures agrees { (old new : RowWords) (thread : Thread) (a : Ahead) (kind : ℕ) (results : List ℕ) → Agrees old (Live thread) → IsRecorded kind results old new → Agrees new (Live (served results (arrived a thread))) }
     ensures ended { (old new : RowWords) (thread : Thread) (cause : ℕ) → Agrees old (Live thread) → new ≡ record old { state = 4; code = cause } → Agrees new (Ended thread.template thread.priority cause) }
     ensures counts { (p : Program) (row : RowWords) (thread : Thread) → IsLife p row thread → (rs : List relive.Record) × (recorded row ≡ encoded rs) × AreFit rs × (thread.passed ≡ length rs) }
+    ensures counted { (p : Program) (d : Decoded) (K : State) (t : ℕ) (thread : Thread) → Stands p d K → thread_of K t ≡ Some thread → HasRecords (row_at d t) thread.passed }
     ensures kept { (p : Program) (words : List ℕ) (K : State) → IsAtRest words → Stands p (image_in words) K → IsKept p words K }
     ensures kept_undone { (p : Program) (old new : List ℕ) (K : State) → durable new ≡ durable old → IsJournalled new → slice_index old 0 ≡ magic → IsKept p old K → IsKept p new K }
     ensures kept_events { (p : Program) (words : List ℕ) (K : State) → IsKept p words K → counter_of words ≡ K.events }

@@ -2,6 +2,7 @@
 #![tactic(auto)]
 
 mod appending;
+mod finishing;
 mod kernel;
 mod laws;
 mod outcome;
@@ -9,8 +10,12 @@ mod reading;
 mod record;
 
 pub use appending::{append, clear};
+pub use finishing::finish;
 pub use kernel::Kernel;
 pub use laws::standing_laws;
 pub use outcome::Outcome;
 pub use reading::{record_at, record_count, words_used};
 pub use record::Record;
+
+#[cfg(test)]
+mod tests;

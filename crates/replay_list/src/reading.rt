@@ -18,9 +18,9 @@ pub fn words_used<W: Words>(words: &W, thread: u32) -> u32
     load(words, Cell::RowWord(thread, 15))
 }
 
-// How many results a record has that begins with this kind word.
+/// How many results a record has that begins with this kind word.
 #[tactic(auto, using(crate::proofs::LawSets::kind_laws))]
-fn result_count(kind_word: u32) -> u32
+pub(crate) fn result_count(kind_word: u32) -> u32
     ensures count { result ≡ results_of kind_word }
 {
     match kind_word % 256 {
@@ -32,9 +32,9 @@ fn result_count(kind_word: u32) -> u32
     }
 }
 
-// A word of the records of a thread.
+/// A word of the records of a thread.
 #[tactic(auto, using(crate::proofs::LawSets::word_laws))]
-fn record_word<W: Words>(words: &W, thread: u32, at: u32) -> u32
+pub(crate) fn record_word<W: Words>(words: &W, thread: u32, at: u32) -> u32
     requires thread { thread < 16 }
     requires within { at < 256 }
     ensures word { result ≡ slice_index (row_at (image_in (W.present words.now)) thread).records at }
@@ -72,7 +72,11 @@ pub fn record_at<W: Words>(words: &W, thread: u32, from: u32) -> Record
     let kind = record_word(words, thread, from);
     let count = result_count(kind);
     let results = results_at(words, thread, from + 1, count);
-    Record { kind, results, after: from + 1 + count }
+    Record {
+        kind,
+        results,
+        after: from + 1 + count,
+    }
 }
 
 /// How many records a thread has. Its words are records of the kinds that they begin with.

@@ -3,7 +3,7 @@ use Rattle.replay_list.proofs.BothLaws.{both_length, both_set}
 use Rattle.replay_list.proofs.ShownLaws.{shows_parts}
 use Rattle.replay_list.proofs.LifeLaws.{life_more, life_kept, agrees_recorded, agrees_ended}
 use Rattle.replay_list.proofs.CountLaws.{counts_records}
-use Rattle.replay_list.proofs.RowLaws.{row_live, context_live, context_served, context_ended}
+use Rattle.replay_list.proofs.RowLaws.{row_live, context_live, context_served, context_ended, records_live}
 use Rattle.replay_list.proofs.KeptLaws.{kept_at_rest, kept_durable, kept_counter}
 use Rattle.kernel_model.specs.Relived.{record_of}
 use Rattle.replay_list.specs.Records.{start_in}
@@ -67,3 +67,6 @@ returns-clause-kept_undone c = kept_durable
 
 pub returns-clause-kept_events : goal.returns-clause-kept_events
 returns-clause-kept_events c = kept_counter
+
+pub returns-clause-counted : goal.returns-clause-counted
+returns-clause-counted c = records_live
