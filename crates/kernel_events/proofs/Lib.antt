@@ -6,3 +6,4 @@ pub mod EndLaws
 pub mod ActLaws
 pub mod ArriveLaws
 pub mod ResultLaws
+pub mod ServedLaws

@@ -2,9 +2,14 @@
 #![tactic(auto)]
 
 mod acting;
+mod actions;
+mod blocks;
 mod closing;
 mod ending;
 mod printing;
 mod prints;
+mod running;
 mod serving;
+mod stepping;
 
+pub use stepping::event;
