@@ -103,7 +103,7 @@ abbrev pub needed_by : ℕ → List Local → Stmt-F Stmt Block → ℕ
 needed_by t locals layer = if deletes_itself t locals (call_of layer) then 0 else words_of (action_layer layer)
 
 -- what is at most the room isn't more than it
-at_most : (n : ℕ) → n ≤ 256 → nat_lt 256 n ≡ false
+pub at_most : (n : ℕ) → n ≤ 256 → nat_lt 256 n ≡ false
 at_most n few = grind (arith, nat_tests)
 
 -- the console has as many bytes as its length says

@@ -7,3 +7,4 @@ pub mod ActLaws
 pub mod ArriveLaws
 pub mod ResultLaws
 pub mod ServedLaws
+pub mod BlockLaws
