@@ -1,5 +1,5 @@
 -- Two lists, element by element.
-use Rattle.std.proofs.Common.{◌≡◌, ℕ, zero, suc, ◌+◌, ◌<◌, ◌≤◌, List, [], ◌∷◌, Option, Some, None, refl, ap, sym, ◌∙◌, arith, length, subst}
+use Rattle.std.proofs.Common.{◌≡◌, ℕ, zero, suc, ◌<◌, List, [], ◌∷◌, Option, Some, None, refl, ap, arith, length, subst}
 use Rattle.std.specs.Prelude.{map, slice_get, slice_index_or, slice_set}
 use Rattle.kernel_image.specs.Agree.{Both}
 

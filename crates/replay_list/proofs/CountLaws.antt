@@ -1,7 +1,7 @@
 -- The records that give a thread back are those of its actions, and it passed as many.
 use Rattle.std.proofs.Common.{◌≡◌, ℕ, ◌+◌, ◌-◌, ◌*◌, ◌<◌, ◌==◌, ◌/◌, ◌%◌, Bool, true, false, List, [], ◌∷◌, Option, Some, None, refl, ap, sym, subst, ◌∙◌, arith, length, if◌then◌else◌, eqb-true}
-use Rattle.std.specs.Prelude.{◌&&◌, slice_index, option_and_then, cond}
-use Rattle.std.proofs.lemmas.Bool.{cond-true, cond-false, cond_both, false≢true}
+use Rattle.std.specs.Prelude.{◌&&◌, slice_index, option_and_then}
+use Rattle.std.proofs.lemmas.Bool.{cond-false, cond_both, false≢true}
 use Rattle.thread_tree.specs.declared.action.Call.{Call}
 use Rattle.thread_tree.specs.declared.action.Call.TheVariants as call
 use Rattle.thread_tree.specs.declared.block.Stmt.{Stmt, out-Stmt}
@@ -16,7 +16,7 @@ use Rattle.thread_tree.specs.Relive.{Start, Record, Life, started, records, pass
 use Rattle.kernel_model.specs.Kernel.{Thread}
 use Rattle.kernel_model.specs.Relived.{is_open, life_of}
 use Rattle.kernel_image.specs.Decoded.{RowWords}
-use Rattle.replay_list.specs.Records.{encoded, recorded, results_of, start_in, IsFit, AreFit}
+use Rattle.replay_list.specs.Records.{results_of, start_in, IsFit, AreFit}
 use Rattle.replay_list.specs.Stands.{IsLife}
 
 -- two tests that both pass

@@ -1,16 +1,16 @@
 -- When words are kept for a kernel.
-use Rattle.std.proofs.Common.{◌≡◌, ◌≢◌, ℕ, ◌==◌, List, true, false, Bool, refl, ap, sym, subst, ◌∙◌, if◌then◌else◌, eqb-true, eq-eqb}
+use Rattle.std.proofs.Common.{◌≡◌, ℕ, ◌==◌, List, ap, sym, subst, ◌∙◌, eqb-true, eq-eqb}
 use Rattle.std.proofs.lemmas.Bool.{cond_both, false≢true}
 use Rattle.std.specs.Prelude.{slice_index}
-use Rattle.undo_journal.specs.Undo.{magic, outside, durable, IsAtRest, IsJournalled}
+use Rattle.undo_journal.specs.Undo.{magic, durable, IsAtRest, IsJournalled}
 use Rattle.undo_journal.proofs.Undone.{durable-at_rest, IsJournalled-at_rest}
 use Rattle.thread_tree.specs.Program.{Program}
 use Rattle.kernel_model.specs.Kernel.{State}
 use Rattle.kernel_model.specs.Run.{initial}
 use Rattle.kernel_image.specs.Cells.{cells}
-use Rattle.kernel_image.specs.Decoded.{Decoded, decoded_of, image_in, saved_image_in}
+use Rattle.kernel_image.specs.Decoded.{decoded_of, image_in, saved_image_in}
 use Rattle.replay_list.specs.Stands.{Stands}
-use Rattle.replay_list.specs.Kept.{IsSaved, IsBlank, IsKept, counter_of}
+use Rattle.replay_list.specs.Kept.{IsKept, counter_of}
 
 -- words at rest that stand for a kernel
 pub kept_at_rest : (p : Program) (words : List ℕ) (K : State) → IsAtRest words → Stands p (image_in words) K → IsKept p words K

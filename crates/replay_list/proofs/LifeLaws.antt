@@ -1,11 +1,9 @@
 -- The life of a row with one record more.
-use Rattle.std.proofs.Common.{◌≡◌, ℕ, ◌+◌, ◌++◌, List, [], ◌∷◌, refl, ap, sym, subst, ◌∙◌, arith, length, append_assoc, append-nil}
-use Rattle.std.specs.Prelude.{sum_by}
+use Rattle.std.proofs.Common.{◌≡◌, ℕ, ◌++◌, List, [], ◌∷◌, ap, sym, subst, ◌∙◌, arith, append_assoc, append-nil}
 use Rattle.std.proofs.lemmas.List.Sums.{sum_by_push}
 use Rattle.thread_tree.specs.Program.{Program}
 use Rattle.thread_tree.specs.Ahead.{Ahead}
 use Rattle.thread_tree.specs.Relive.{Start, Record}
-use Rattle.kernel_model.specs.Kernel as kernel
 use Rattle.kernel_model.specs.Kernel.{Thread}
 use Rattle.kernel_model.specs.Kernel.Row.{Ended, Live}
 use Rattle.kernel_model.specs.Relived.{words_in, IsRelived}

@@ -1,5 +1,5 @@
 -- The row and the context of a live thread.
-use Rattle.std.proofs.Common.{◌≡◌, ℕ, zero, suc, ◌<◌, ◌≤◌, length, arith, List, [], ◌∷◌, Option, Some, None, refl, ap, sym, subst, ◌∙◌}
+use Rattle.std.proofs.Common.{◌≡◌, ℕ, zero, suc, ◌<◌, ◌≤◌, length, arith, List, [], ◌∷◌, Option, Some, None, refl, sym, subst}
 use Rattle.std.specs.Prelude.{slice_get, slice_index_or, slice_set, option_and_then}
 use Rattle.thread_machine.specs.declared.context.Ctx.{Ctx}
 use Rattle.thread_tree.specs.Program.{Program}

@@ -1,21 +1,18 @@
 -- From the parts of the image to what it shows.
-use Rattle.std.proofs.Common.{◌≡◌, ℕ, ◌+◌, List, [], ◌∷◌, refl, ap, sym, ◌∙◌}
+use Rattle.std.proofs.Common.{◌≡◌, ℕ, ◌+◌, List, [], ◌∷◌, refl, ap, ◌∙◌}
 use Rattle.std.specs.Prelude.{map}
 use Rattle.std.specs.List.{enumerate_from}
 use Rattle.thread_tree.specs.Program as program
 use Rattle.thread_tree.specs.Program.{Program}
-use Rattle.kernel_model.specs.declared.what.What.{What}
 use Rattle.kernel_model.specs.declared.what.What.TheVariants.{Send, Receive, Take}
 use Rattle.kernel_model.specs.Kernel as kernel
 use Rattle.kernel_model.specs.Kernel.{State}
-use Rattle.kernel_model.specs.Order as order
-use Rattle.kernel_model.specs.Visible.{Queue, Semaphore}
 use Rattle.kernel_model.specs.Sound.{IsSound}
 use Rattle.kernel_model.specs.Show as show
 use Rattle.kernel_model.specs.Show.{visible}
 use Rattle.kernel_image.specs.Agree.{Agrees, Both}
 use Rattle.kernel_image.specs.Decoded.{Decoded, RowWords, queue_at, semaphore_at}
-use Rattle.kernel_image.specs.Shown.{items_of, objects_in, shown, shown_queue, shown_semaphore, line_of, waits_for}
+use Rattle.kernel_image.specs.Shown.{items_of, objects_in, shown, shown_queue, shown_semaphore}
 use Rattle.kernel_image.proofs.Lines.{rows-agree, ready_lists-agree, timed-agree, waiting-agree}
 use Rattle.replay_list.specs.Stands.{IsRow, items_in, counts_in, console_in}
 use Rattle.replay_list.proofs.BothLaws.{both_weaker}

@@ -1,4 +1,4 @@
-use Rattle.std.proofs.Common.{◌≡◌, Option, Some, sym, ◌∙◌, ap, List}
+use Rattle.std.proofs.Common.{◌≡◌, Option, Some, ◌∙◌, ap, List}
 use Rattle.std.specs.Prelude.{slice_set}
 use Rattle.std.proofs.lemmas.List.{set-set}
 use Rattle.thread_tree.specs.LocalState.{bind}

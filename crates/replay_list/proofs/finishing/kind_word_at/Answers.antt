@@ -1,5 +1,5 @@
 use Rattle.std.proofs.Common.{◌≡◌, ◌≤◌, Option, ap, subst}
-use Rattle.std.specs.Prelude.{IfSome, IsSomeAnd}
+use Rattle.std.specs.Prelude.{IfSome}
 use Rattle.thread_tree.specs.Kinds.{Action, kind_word, result_count}
 use Rattle.thread_tree.specs.LocalState.{next_action}
 use Rattle.thread_tree.specs.Program.{program_of}

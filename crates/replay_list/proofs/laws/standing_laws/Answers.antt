@@ -1,4 +1,3 @@
-use Rattle.std.proofs.Common.{refl, ◌∙◌, ap}
 use Rattle.replay_list.proofs.BothLaws.{both_length, both_set}
 use Rattle.replay_list.proofs.ShownLaws.{shows_parts}
 use Rattle.replay_list.proofs.LifeLaws.{life_more, life_kept, agrees_recorded, agrees_ended}

@@ -1,0 +1,40 @@
+// Formatting a blank device in layout 1.
+ghost use Rattle.std.specs.Prelude.{◌≡◌, ◌+◌, ◌≤◌, ◌↔◌, IsErr, OnOk, OnErr, slice_index};
+ghost use Rattle.nv_memory.specs.Budget.{spent, IsShort};
+ghost use Rattle.thread_tree.specs.Program.{program_of};
+ghost use Rattle.kernel_image.specs.Start.{IsFormatted};
+
+use kernel_image::initial_word;
+use nv_memory::{Cut, Nv, WORDS};
+use std::sync::ledger::Ledger;
+use step_counter::Steps;
+use thread_check::Checked;
+use undo_journal::MAGIC;
+
+/// Writes the initial words 1 to 16,383 in this order and then the magic word, one step each. `Cut` comes exactly where
+/// fewer writes are left; word 0 is 0 then.
+#[tactic(auto, using(crate::proofs::LawSets::formatting_laws))]
+pub(crate) fn format<N: Nv, L: Ledger>(
+    nv: &mut N,
+    program: &Checked,
+    steps: &mut Steps<L>,
+) -> Result<(), Cut>
+    requires blank { slice_index (N.words nv.old) 0 ≡ 0 }
+    ensures cut { IsErr result ↔ IsShort (N.left nv.old) 16384 }
+    ensures formatted { OnOk result (IsFormatted (program_of program.now) (N.words nv.new)) }
+    ensures blank { OnErr result (slice_index (N.words nv.new) 0 ≡ 0) }
+    ensures left { N.left nv.new ≡ spent (N.left nv.old) 16384 }
+    ensures to_come { N.to_come nv.new ≡ N.to_come nv.old }
+    ensures ends { N.ends nv.new ≡ N.ends nv.old }
+    ensures counted { steps.old ≤ steps.new }
+    ensures steps { steps.new ≤ steps.old + 16384 }
+    ensures all { OnOk result (steps.new ≡ steps.old + 16384) }
+{
+    for at in 1..WORDS {
+        steps.tick();
+        nv.write(at, initial_word(program, at))?;
+    }
+    steps.tick();
+    nv.write(0, MAGIC)?;
+    Ok(())
+}

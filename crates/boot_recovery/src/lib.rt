@@ -1,0 +1,14 @@
+//! Recovery of a kernel from the words of a device alone (docs/BOOTS.md).
+#![tactic(auto)]
+
+mod formatting;
+mod recovery;
+mod restoring;
+mod rows;
+mod starting;
+
+pub use recovery::recover;
+pub use starting::formatting_stands;
+
+#[cfg(test)]
+mod tests;

@@ -1,0 +1,163 @@
+// Restoring a thread from its row: its start, its records one after another, and the call that is open.
+ghost use Rattle.std.specs.Prelude.{◌≡◌, ◌+◌, ◌<◌, ◌≤◌, ◌%◌, ◌/◌, ℕ, List, Some, take, drop};
+ghost use Rattle.thread_tree.specs.Program.{program_of};
+ghost use Rattle.thread_tree.specs.LocalState.{LocalState};
+ghost use Rattle.thread_tree.specs.Relive.{started};
+ghost use Rattle.thread_machine.specs.Context.{local_of};
+ghost use Rattle.thread_machine.specs.Reached.{IsContext};
+ghost use Rattle.kernel_model.specs.Kernel.{Thread};
+ghost use Rattle.kernel_model.specs.Kernel.Row.{Live};
+ghost use Rattle.kernel_image.specs.Decoded.{image_in, row_at};
+ghost use Rattle.kernel_image.specs.Agree.{IsThread};
+ghost use Rattle.replay_list.specs.Records.{start_in, values_in, results_of};
+ghost use Rattle.replay_list.specs.Stands.{IsRow, IsContextOf};
+ghost use Rattle.boot_recovery.specs.Remaining.{Remains, IsGivenBack};
+
+use arrayvec::ArrayVec;
+use kernel_image::{Cell, load};
+use std::sync::ledger::Ledger;
+use step_counter::Steps;
+use thread_check::Checked;
+use thread_machine::Ctx;
+use undo_journal::Words;
+
+// How many results a record has that begins with this kind word.
+fn results_of(kind_word: u32) -> u32
+    ensures many { result ≡ results_of kind_word }
+{
+    match kind_word % 256 {
+        8 => 2,
+        4 | 12 | 14 | 15 => 0,
+        16 => 1 + kind_word / 256,
+        0..=13 => 1,
+        _ => 0,
+    }
+}
+
+// So many record words of a thread from one on.
+#[tactic(auto, using(crate::proofs::LawSets::word_laws))]
+fn words_at<W: Words>(words: &W, thread: u32, from: u32, count: u32) -> ArrayVec<u32, 256>
+    requires thread { thread < 16 }
+    requires within { from + count ≤ 256 }
+    ensures words { result.items ≡ take count (drop from (row_at (image_in (W.present words.now)) thread).records) }
+{
+    let mut results = ArrayVec::new();
+    for i in 0..count {
+        results.push(load(words, Cell::RecordWord(thread, from + i)));
+    }
+    results
+}
+
+// The values with which a thread starts.
+#[tactic(auto, using(crate::proofs::LawSets::word_laws))]
+fn start_values<W: Words>(words: &W, thread: u32) -> ArrayVec<u32, 16>
+    requires thread { thread < 16 }
+    ensures values { result.items ≡ values_in (row_at (image_in (W.present words.now)) thread) }
+{
+    let count = load(words, Cell::RowWord(thread, 14)).min(16);
+    let mut values = ArrayVec::new();
+    for i in 0..count {
+        values.push(load(words, Cell::StartValue(thread, i)));
+    }
+    values
+}
+
+// The context at the start of a thread.
+fn begin<W: Words>(words: &W, program: &Checked, thread: u32) -> Ctx
+    requires thread { thread < 16 }
+    requires starts { (s : LocalState) × (started (program_of program.now) (start_in (row_at (image_in (W.present words.now)) thread)) ≡ Some s) }
+    ensures context { IsContext (program_of program.now) result }
+    ensures started { started (program_of program.now) (start_in (row_at (image_in (W.present words.now)) thread)) ≡ Some (local_of (program_of program.now) result) }
+{
+    let values = start_values(words, thread);
+    let start = load(words, Cell::RowWord(thread, 13));
+    if start == 0 {
+        let template = load(words, Cell::RowWord(thread, 1));
+        let ctx = Ctx::fresh(program, template, values.as_slice());
+        return ctx;
+    }
+    let ctx = Ctx::at_loop(program, start - 1, values.as_slice());
+    ctx
+}
+
+// Passes by the action of the record that begins at a word, and says where the next one begins.
+fn replay_record<W: Words, L: Ledger>(
+    words: &W,
+    program: &Checked,
+    thread: u32,
+    from: u32,
+    ctx: &mut Ctx,
+    steps: &mut Steps<L>,
+) -> u32
+    requires thread { thread < 16 }
+    requires context { IsContext (program_of program.now) ctx.old }
+    requires some { from < (row_at (image_in (W.present words.now)) thread).used }
+    requires more { (before : ℕ) × (known : Thread) × Remains (program_of program.now) (row_at (image_in (W.present words.now)) thread) from (local_of (program_of program.now) ctx.old) before steps.old known }
+    ensures context { IsContext (program_of program.now) ctx.new }
+    ensures later { from < result }
+    ensures within { result ≤ 256 }
+    ensures turned { (before : ℕ) (known : Thread) → Remains (program_of program.now) (row_at (image_in (W.present words.now)) thread) from (local_of (program_of program.now) ctx.old) before steps.old known → Remains (program_of program.now) (row_at (image_in (W.present words.now)) thread) result (local_of (program_of program.now) ctx.new) before steps.new known }
+{
+    let count = results_of(load(words, Cell::RecordWord(thread, from)));
+    let results = words_at(words, thread, from + 1, count);
+    ctx.replay(program, results.as_slice(), steps);
+    from + 1 + count
+}
+
+// Passes by the actions of all records.
+fn replay_all<W: Words, L: Ledger>(
+    words: &W,
+    program: &Checked,
+    thread: u32,
+    ctx: &mut Ctx,
+    steps: &mut Steps<L>,
+)
+    requires thread { thread < 16 }
+    requires context { IsContext (program_of program.now) ctx.old }
+    requires more { (before : ℕ) × (known : Thread) × Remains (program_of program.now) (row_at (image_in (W.present words.now)) thread) 0 (local_of (program_of program.now) ctx.old) before steps.old known }
+    ensures context { IsContext (program_of program.now) ctx.new }
+    ensures replayed { (before : ℕ) (known : Thread) → Remains (program_of program.now) (row_at (image_in (W.present words.now)) thread) 0 (local_of (program_of program.now) ctx.old) before steps.old known → (from : ℕ) × ((row_at (image_in (W.present words.now)) thread).used ≤ from) × Remains (program_of program.now) (row_at (image_in (W.present words.now)) thread) from (local_of (program_of program.now) ctx.new) before steps.new known }
+{
+    let used = load(words, Cell::RowWord(thread, 15));
+    let mut from = 0;
+    while from < used {
+        from = replay_record(words, program, thread, from, ctx, steps);
+    }
+}
+
+// Runs ahead to the call that is open, if the thread is delayed or waits.
+fn arrive<W: Words, L: Ledger>(
+    words: &W,
+    program: &Checked,
+    thread: u32,
+    ctx: &mut Ctx,
+    steps: &mut Steps<L>,
+)
+    requires thread { thread < 16 }
+    requires context { IsContext (program_of program.now) ctx.old }
+    ensures context { IsContext (program_of program.now) ctx.new }
+    ensures arrived { (before from : ℕ) (known : Thread) → IsThread (row_at (image_in (W.present words.now)) thread) known → (row_at (image_in (W.present words.now)) thread).used ≤ from → Remains (program_of program.now) (row_at (image_in (W.present words.now)) thread) from (local_of (program_of program.now) ctx.old) before steps.old known → IsGivenBack (local_of (program_of program.now) ctx.new) before steps.new known }
+{
+    if load(words, Cell::RowWord(thread, 0)) != 1 {
+        let _ = ctx.ahead(program, steps);
+    }
+}
+
+/// The context of a live thread, restored from its row: its start, its records, and the call that is open. It takes as
+/// many steps as the thread made moves since its start.
+pub(crate) fn restore<W: Words, L: Ledger>(
+    words: &W,
+    program: &Checked,
+    thread: u32,
+    steps: &mut Steps<L>,
+) -> Ctx
+    requires thread { thread < 16 }
+    requires live { (known : Thread) × IsRow (program_of program.now) (row_at (image_in (W.present words.now)) thread) (Live known) }
+    ensures restored { (known : Thread) → IsRow (program_of program.now) (row_at (image_in (W.present words.now)) thread) (Live known) → IsContextOf (program_of program.now) result known }
+    ensures stepped { (known : Thread) → IsRow (program_of program.now) (row_at (image_in (W.present words.now)) thread) (Live known) → steps.new ≡ steps.old + known.age }
+{
+    let mut ctx = begin(words, program, thread);
+    replay_all(words, program, thread, &mut ctx, steps);
+    arrive(words, program, thread, &mut ctx, steps);
+    ctx
+}

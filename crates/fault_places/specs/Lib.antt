@@ -1,0 +1,14 @@
+pub mod Order
+pub mod Met
+pub mod Found
+pub mod Sorts
+pub mod OfExpressions
+pub mod OfCalls
+pub mod OfBlocks
+pub mod OfTransactions
+pub mod OfStatements
+pub mod OfDeclarations
+pub mod Earliest
+pub mod PlacesOf
+pub mod Passed
+pub mod Rows
