@@ -25,14 +25,14 @@ put-requires-clause-place g c =
 pub returns-in-Ok-clause-stored : goal.returns-in-Ok-clause-stored
 returns-in-Ok-clause-stored g c =
     ap (λ (d : Decoded). objects_of (program_of c.args.program.now) d) c.in-Ok.ensures.heap
-    ∙ field_stored _ _ _ _ _ c.args.value (length_heap _) (is_field _ _ _ _ _ _ c.requires.field c.requires.objects c.if-not-is_object.ensures.is)
+    ∙ field_stored _ _ _ _ _ _ c.args.value (length_heap _) (is_field _ _ _ _ _ _ c.requires.field c.requires.objects c.if-not-is_object.ensures.is)
 
 pub returns-in-Ok-clause-sound : goal.returns-in-Ok-clause-sound
 returns-in-Ok-clause-sound g c =
     subst (λ (d : Decoded). AreSoundObjects (program_of c.args.program.now) (objects_of (program_of c.args.program.now) d)) (sym c.in-Ok.ensures.heap)
-    (field_sound _ _ _ _ _ c.args.value (length_heap _) (is_field _ _ _ _ _ _ c.requires.field c.requires.objects c.if-not-is_object.ensures.is))
+    (field_sound _ _ _ _ _ _ c.args.value (length_heap _) (is_field _ _ _ _ _ _ c.requires.field c.requires.objects c.if-not-is_object.ensures.is))
 
 pub returns-in-Ok-clause-holes : goal.returns-in-Ok-clause-holes
 returns-in-Ok-clause-holes g c =
     subst (λ (d : Decoded). KeepsHoles (program_of c.args.program.now) (image_in (g.N.Nv.words c.args.tx.now)) d) (sym c.in-Ok.ensures.heap)
-    (field_holes _ _ _ _ _ c.args.value (length_heap _) (is_field _ _ _ _ _ _ c.requires.field c.requires.objects c.if-not-is_object.ensures.is))
+    (field_holes _ _ _ _ _ _ c.args.value (length_heap _) (is_field _ _ _ _ _ _ c.requires.field c.requires.objects c.if-not-is_object.ensures.is))
