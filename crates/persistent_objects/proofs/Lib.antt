@@ -1,8 +1,12 @@
 pub mod ClauseLaws
 pub mod FieldLaws
 pub mod FoundLaws
+pub mod Given
 pub mod HoleLaws
 pub mod ImageLaws
 pub mod LawSets
 pub mod Listed
+pub mod NumberLaws
+pub mod Packed
+pub mod StaticLaws
 pub mod StoreLaws

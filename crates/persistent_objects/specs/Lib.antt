@@ -1,3 +1,4 @@
+pub mod NamesIn
 pub mod Holes
 pub mod Objects
 pub mod Stops
