@@ -1,18 +1,17 @@
 -- What the public calls promise, from what was read and stored.
-use Rattle.std.proofs.Common.{◌≡◌, ℕ, ◌+◌, ◌%◌, ◌<◌, ◌≤◌, List, true, refl, sym, ap, subst, ◌∙◌, arith, length, slice_index, slice_set}
+use Rattle.std.proofs.Common.{◌≡◌, ℕ, ◌+◌, ◌%◌, ◌<◌, List, true, refl, sym, ap, subst, ◌∙◌, arith, length, slice_index, slice_set}
 use Rattle.std.specs.Prelude.{is_some, Option, Some}
 use Rattle.std.proofs.lemmas.List.Elements.{recursion_from_All}
 use Rattle.kernel_model.specs.Visible.{Object}
 use Rattle.kernel_model.specs.Numbers.{fields_of}
 use Rattle.kernel_model.specs.Objects.{object_of, first_place, with_field}
 use Rattle.kernel_model.specs.Sound.{AreSoundObjects}
-use Rattle.kernel_image.specs.Decoded.{Decoded}
 use Rattle.kernel_image.specs.Shown.{objects_in}
 use Rattle.thread_tree.specs.Program.{Program}
-use Rattle.persistent_objects.specs.Holes.{AreHoles, KeepsHoles}
-use Rattle.persistent_objects.specs.Objects.{objects_of, value_at}
+use Rattle.persistent_objects.specs.Holes.{AreHoles}
+use Rattle.persistent_objects.specs.Objects.{value_at}
 use Rattle.persistent_objects.proofs.Listed.{listed-at}
-use Rattle.persistent_objects.proofs.FoundLaws.{IsThere, there, begun, objects_at}
+use Rattle.persistent_objects.proofs.FoundLaws.{IsThere, there, begun}
 use Rattle.persistent_objects.proofs.FieldLaws.{field-sound}
 use Rattle.persistent_objects.proofs.HoleLaws.{holes-inside, holes-with}
 use Rattle.persistent_objects.proofs.StoreLaws.{width, laid-end, in_some, objects_at-set}

@@ -1,7 +1,7 @@
 -- Which object of an image stands at a place.
-use Rattle.std.proofs.Common.{◌≡◌, ℕ, zero, suc, ◌+◌, ◌-◌, ◌*◌, ◌/◌, ◌%◌, ◌<◌, ◌≤◌, ◌==◌, List, [], ◌∷◌, Bool, true, false, refl, ap, sym, subst, ◌∙◌, arith, length, slice_index}
+use Rattle.std.proofs.Common.{◌≡◌, ℕ, zero, suc, ◌+◌, ◌-◌, ◌*◌, ◌/◌, ◌%◌, ◌<◌, ◌≤◌, ◌==◌, List, [], ◌∷◌, Bool, true, false, refl, ap, sym, ◌∙◌, arith, slice_index}
 use Rattle.std.proofs.lemmas.Bool.Decides.{nat_tests}
-use Rattle.std.specs.Prelude.{map, filter, find, if◌then◌else◌, ◌&&◌, Option, Some, None, is_some}
+use Rattle.std.specs.Prelude.{map, filter, if◌then◌else◌, ◌&&◌, Option, Some, None, is_some}
 use Rattle.std.specs.List.{range_with_len}
 use Rattle.kernel_model.specs.Visible.{Object}
 use Rattle.kernel_model.specs.Objects as objects
@@ -30,10 +30,10 @@ object_of-at p heap (q ∷ qs) place kind = by_test (q == place) _
     (λ same.
     let here : q ≡ place = grind (arith, nat_tests) in
     by_test (kind_at heap place == kind) _
-    (λ yes. 
+    (λ yes.
     let kinds : (kind_at heap q == kind) ≡ true = ap (λ (n : ℕ). kind_at heap n == kind) here ∙ yes in
     rw (same, kinds, yes) (ap (λ (n : ℕ). Some (object_at p heap n)) here))
-    (λ other'. 
+    (λ other'.
     let kinds : (kind_at heap q == kind) ≡ false = ap (λ (n : ℕ). kind_at heap n == kind) here ∙ other' in
     let rest = object_of-at p heap qs place kind in
     rw (same, kinds) (rest ∙ none (is_in place qs) (kind_at heap place == kind) (Some (object_at p heap place)) other')))

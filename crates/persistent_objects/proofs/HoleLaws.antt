@@ -1,5 +1,5 @@
 -- A store inside an object changes no hole.
-use Rattle.std.proofs.Common.{◌≡◌, ◌≢◌, ◌⊎◌, inl, inr, ℕ, ◌+◌, ◌-◌, ◌%◌, ◌<◌, ◌≤◌, ◌==◌, Bool, true, false, List, [], ◌∷◌, refl, sym, ap, subst, ◌∙◌, arith, length, slice_index, slice_set, get_or-set_other}
+use Rattle.std.proofs.Common.{◌≡◌, ◌≢◌, ◌⊎◌, inl, inr, ℕ, ◌+◌, ◌-◌, ◌%◌, ◌<◌, ◌≤◌, ◌==◌, Bool, true, false, List, [], ◌∷◌, refl, sym, subst, ◌∙◌, arith, slice_index, slice_set, get_or-set_other}
 use Rattle.std.proofs.lemmas.Bool.Decides.{nat_tests}
 use Rattle.std.specs.List.{AllByRecursion}
 use Rattle.kernel_model.specs.Visible.{Object}
@@ -38,9 +38,12 @@ module _ (heap : List ℕ) (at value : ℕ) where
       (λ e h. (h.0, word from (omega (arith, low)) ∙ h.1, word (from + 1) (omega (arith, low)) ∙ h.2)) holes
   holes-behind (o ∷ os) from link low laid holes =
       either (from == o.place) _ _ _ _ (λ e h. holes-behind os (end_of o) link (omega (arith, low, laid.0)) laid.1 h)
-      (λ e h. (h.0, word from (omega (arith, low)) ∙ h.1,
-      subst (λ (n : ℕ). AreHoles (slice_set heap at value) n (end_of o) os) (sym (word (from + 1) (omega (arith, low))))
-      (holes-behind os (end_of o) (slice_index heap (from + 1)) (omega (arith, low, laid.0)) laid.1 h.2))) holes
+      (λ e h. (
+        h.0,
+        word from (omega (arith, low)) ∙ h.1,
+        subst (λ (n : ℕ). AreHoles (slice_set heap at value) n (end_of o) os) (sym (word (from + 1) (omega (arith, low))))
+            (holes-behind os (end_of o) (slice_index heap (from + 1)) (omega (arith, low, laid.0)) laid.1 h.2),
+      )) holes
 
   -- a store inside an object
   pub holes-inside : (os : List Object) (from link : ℕ) → from % 2 ≡ 0 → AllByRecursion (λ o. o.place % 2 ≡ 0) os → InSome at os → IsLaid from os → AreHoles heap link from os → AreHoles (slice_set heap at value) link from os
@@ -49,18 +52,22 @@ module _ (heap : List ℕ) (at value : ℕ) where
     | inl here ↦
         either (from == o.place) _ _ _ _ (λ e h. holes-behind os (end_of o) link here.1 laid.1 h)
         (λ e h.
-        let gap : from + 2 ≤ o.place = gap_of from o.place e laid.0 even all.0 in
-        (h.0, word from (omega (arith, gap, here.0)) ∙ h.1,
-        subst (λ (n : ℕ). AreHoles (slice_set heap at value) n (end_of o) os) (sym (word (from + 1) (omega (arith, gap, here.0))))
-        (holes-behind os (end_of o) (slice_index heap (from + 1)) here.1 laid.1 h.2))) holes
+        let gap : from + 2 ≤ o.place = gap_of from o.place e laid.0 even all.0 in (
+          h.0,
+          word from (omega (arith, gap, here.0)) ∙ h.1,
+          subst (λ (n : ℕ). AreHoles (slice_set heap at value) n (end_of o) os) (sym (word (from + 1) (omega (arith, gap, here.0))))
+              (holes-behind os (end_of o) (slice_index heap (from + 1)) here.1 laid.1 h.2),
+        )) holes
     | inr behind ↦
         let low = in_some-from at os (end_of o) laid.1 behind in
         either (from == o.place) _ _ _ _ (λ e h. holes-inside os (end_of o) link (omega (arith, all.0)) all.1 behind laid.1 h)
         (λ e h.
-        let gap : from + 2 ≤ o.place = gap_of from o.place e laid.0 even all.0 in
-        (h.0, word from (omega (arith, gap, low)) ∙ h.1,
-        subst (λ (n : ℕ). AreHoles (slice_set heap at value) n (end_of o) os) (sym (word (from + 1) (omega (arith, gap, low))))
-        (holes-inside os (end_of o) (slice_index heap (from + 1)) (omega (arith, all.0)) all.1 behind laid.1 h.2))) holes
+        let gap : from + 2 ≤ o.place = gap_of from o.place e laid.0 even all.0 in (
+          h.0,
+          word from (omega (arith, gap, low)) ∙ h.1,
+          subst (λ (n : ℕ). AreHoles (slice_set heap at value) n (end_of o) os) (sym (word (from + 1) (omega (arith, gap, low))))
+              (holes-inside os (end_of o) (slice_index heap (from + 1)) (omega (arith, all.0)) all.1 behind laid.1 h.2),
+        )) holes
   ]
     where
       gap_of : (from place : ℕ) → (from == place) ≡ false → from ≤ place → from % 2 ≡ 0 → place % 2 ≡ 0 → from + 2 ≤ place
@@ -73,7 +80,7 @@ pub holes-with : (heap : List ℕ) (place field value : ℕ) (os : List Object) 
 holes-with heap place field value [] from link holes = holes
 holes-with heap place field value (o ∷ os) from link holes =
     let between : ℕ → ℕ → Type 0 = λ m n. Either (from == m) (AreHoles heap link n (with_field os place field value))
-        ((link ≡ from) × (slice_index heap from ≡ m - from) × AreHoles heap (slice_index heap (from + 1)) n (with_field os place field value)) in
+    ((link ≡ from) × (slice_index heap from ≡ m - from) × AreHoles heap (slice_index heap (from + 1)) n (with_field os place field value)) in
     subst (λ (m : ℕ). between m (end_of (object_with place field value o))) (sym (with-place place field value o))
     (subst (λ (n : ℕ). between o.place n) (sym (with-end place field value o))
     (either (from == o.place) _ _ _ _ (λ e h. holes-with heap place field value os (end_of o) link h)

@@ -1,5 +1,5 @@
 -- Numbers by name, and the fields of a type, as the declarations give them.
-use Rattle.std.proofs.Common.{◌≡◌, ℕ, suc, ◌+◌, ◌<◌, ◌≤◌, ◌==◌, List, [], ◌∷◌, Bool, true, false, refl, ap, sym, ◌∙◌, arith, length, drop}
+use Rattle.std.proofs.Common.{◌≡◌, ℕ, ◌+◌, ◌≤◌, ◌==◌, List, [], ◌∷◌, Bool, true, false, refl, ap, sym, ◌∙◌, arith, length, drop}
 use Rattle.std.proofs.Math.ListN.{drop_of_length-le}
 use Rattle.std.proofs.lemmas.List.{length-map}
 use Rattle.std.proofs.lemmas.Option.{unwrap_or-slice_get, none-some}
@@ -15,8 +15,7 @@ use Rattle.thread_tree.specs.Limits.{IsWithinLimits}
 use Rattle.kernel_model.specs.Numbers.{object_number, kind_number, field_number, fields_of}
 use Rattle.kernel_image.specs.Declarations.{kind_in}
 use Rattle.persistent_objects.specs.declared.what.What.TheVariants.{Kinds, Objects, ObjectKinds}
-use Rattle.persistent_objects.specs.NamesIn.{name_in, names_in, is_name, kind_fields}
-use Rattle.persistent_objects.proofs.Listed.{by_test}
+use Rattle.persistent_objects.specs.NamesIn.{names_in, is_name, kind_fields}
 use Rattle.persistent_objects.proofs.Given.{rest_from, position-few}
 use Rattle.persistent_objects.proofs.Packed.{HasFewFields-within}
 

@@ -2,7 +2,7 @@
 use Rattle.std.proofs.Common.{◌≡◌, ℕ, zero, suc, ◌+◌, ◌-◌, ◌*◌, ◌<◌, ◌≤◌, List, [], ◌∷◌, refl, ap, subst, sym, ◌∙◌, arith, length}
 use Rattle.std.proofs.lemmas.List.{length-map}
 use Rattle.std.proofs.lemmas.Option.{unwrap_or-slice_get}
-use Rattle.std.specs.Prelude.{map, slice_get, slice_index_or, unwrap_or, Option, Some, None}
+use Rattle.std.specs.Prelude.{slice_get, slice_index_or, unwrap_or, Option, Some, None}
 use Rattle.kernel_model.specs.Visible.{Object}
 use Rattle.kernel_model.specs.Numbers.{kind_number, fields_of}
 use Rattle.kernel_model.specs.Objects.{block_size, static_objects}

@@ -1,5 +1,5 @@
 -- A store inside an object changes its field, and no other object.
-use Rattle.std.proofs.Common.{◌≡◌, ◌≢◌, ◌⊎◌, inl, inr, ℕ, ◌+◌, ◌-◌, ◌%◌, ◌<◌, ◌≤◌, ◌==◌, Bool, true, false, List, [], ◌∷◌, refl, sym, ap, subst, ◌∙◌, arith, length, slice_index, slice_set, get_or-set_same, get_or-set_other}
+use Rattle.std.proofs.Common.{◌≡◌, ◌≢◌, inl, inr, ℕ, ◌+◌, ◌-◌, ◌%◌, ◌<◌, ◌≤◌, ◌==◌, Bool, true, false, List, [], ◌∷◌, refl, sym, ap, subst, ◌∙◌, arith, length, slice_index, slice_set, get_or-set_same, get_or-set_other}
 use Rattle.std.proofs.lemmas.Bool.Decides.{nat_tests}
 use Rattle.std.specs.Prelude.{if◌then◌else◌, nat_le}
 use Rattle.kernel_model.specs.Visible.{Object}
@@ -9,7 +9,7 @@ use Rattle.kernel_model.specs.Sound.{IsLaid}
 use Rattle.kernel_image.specs.Decoded.{listed}
 use Rattle.kernel_image.specs.Shown.{object_at, static_mark}
 use Rattle.thread_tree.specs.Program.{Program}
-use Rattle.persistent_objects.proofs.Listed.{by_test, listed-at, listed-set, listed-same, length-listed}
+use Rattle.persistent_objects.proofs.Listed.{by_test, listed-set, listed-same, length-listed}
 use Rattle.persistent_objects.proofs.FoundLaws.{is_in, kind_at, objects_at}
 use Rattle.persistent_objects.proofs.HoleLaws.{InSome}
 

@@ -16,7 +16,13 @@ use undo_journal::Words;
 /// The value of a field of the live object of this type at this place. `BadReference` comes exactly where there is
 /// none, whatever the place is.
 #[tactic(auto, using(crate::proofs::LawSets::loading_laws))]
-pub fn load<W: Words>(words: &W, program: &Checked, place: u32, kind: u32, field: u32) -> Result<u32, BadReference>
+pub fn load<W: Words>(
+    words: &W,
+    program: &Checked,
+    place: u32,
+    kind: u32,
+    field: u32,
+) -> Result<u32, BadReference>
     requires field { field < length (fields_of (program_of program.now) kind) }
     requires objects { AreSoundObjects (program_of program.now) (objects_of (program_of program.now) (image_in (W.present words.now))) }
     ensures found { value_in result ≡ value_at (object_of (objects_of (program_of program.now) (image_in (W.present words.now))) place kind) field }

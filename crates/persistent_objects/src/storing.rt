@@ -37,7 +37,14 @@ fn put<N: Nv>(tx: &mut Open<N>, at: u32, value: u32) -> Result<(), Cut>
 /// Stores a value in a field of the live object of this type at this place. `BadReference` comes exactly where there
 /// is none, whatever the place is.
 #[tactic(auto, using(crate::proofs::LawSets::storing_laws))]
-pub fn store<N: Nv>(tx: &mut Open<N>, program: &Checked, place: u32, kind: u32, field: u32, value: u32) -> Result<(), Stop>
+pub fn store<N: Nv>(
+    tx: &mut Open<N>,
+    program: &Checked,
+    place: u32,
+    kind: u32,
+    field: u32,
+    value: u32,
+) -> Result<(), Stop>
     requires field { field < length (fields_of (program_of program.now) kind) }
     requires objects { AreSoundObjects (program_of program.now) (objects_of (program_of program.now) (image_in (N.words tx.old))) }
     requires room { 1 ≤ room_of (N.words tx.old) }

@@ -1,7 +1,5 @@
-use Rattle.std.proofs.Common.{ℕ, ◌+◌, arith, subst, sym, ap, ◌∙◌}
-use Rattle.std.specs.Prelude.{Option, option_map}
-use Rattle.std.proofs.lemmas.Bool.Decides.{nat_tests}
-use Rattle.thread_tree.specs.Program.{Kind}
+use Rattle.std.proofs.Common.{ℕ, ◌+◌, arith, subst, sym, ap}
+use Rattle.std.specs.Prelude.{option_map}
 use Rattle.kernel_image.specs.Declarations.{kind_in}
 use Rattle.persistent_objects.specs.NamesIn.{kind_fields}
 use Rattle.persistent_objects.proofs.Given.{IsToCome, IsToCome-here, IsToCome-passed, IsToCome-other, IsToCome-none}

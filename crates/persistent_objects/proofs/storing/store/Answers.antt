@@ -1,4 +1,4 @@
-use Rattle.std.proofs.Common.{◌+◌, ◌<◌, ℕ, List, sym, ap, subst, ◌∙◌, arith}
+use Rattle.std.proofs.Common.{sym, ap, subst, ◌∙◌, arith}
 use Rattle.thread_tree.specs.Program.{program_of}
 use Rattle.kernel_model.specs.Sound.{AreSoundObjects}
 use Rattle.kernel_image.specs.Decoded.{Decoded, image_in}
