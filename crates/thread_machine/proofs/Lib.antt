@@ -13,6 +13,7 @@ pub mod WithinLemmas
 pub mod RunLemmas
 pub mod SpotLemmas
 pub mod ReachedLemmas
+mod OwnLemmas
 pub mod OperandLemmas
 pub mod BindLemmas
 pub mod Induction
