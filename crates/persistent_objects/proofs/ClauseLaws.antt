@@ -1,5 +1,5 @@
 -- What the public calls promise, from what was read and stored.
-use Rattle.std.proofs.Common.{◌≡◌, ℕ, ◌+◌, ◌%◌, ◌<◌, List, true, refl, sym, ap, subst, ◌∙◌, arith, length, slice_index, slice_set}
+use Rattle.std.proofs.Common.{◌≡◌, ℕ, ◌+◌, ◌%◌, ◌<◌, ◌≤◌, List, true, refl, sym, ap, subst, ◌∙◌, arith, length, slice_index, slice_set}
 use Rattle.std.specs.Prelude.{is_some, Option, Some}
 use Rattle.std.proofs.lemmas.List.Elements.{recursion_from_All}
 use Rattle.kernel_model.specs.Visible.{Object}
@@ -10,7 +10,9 @@ use Rattle.kernel_image.specs.Shown.{objects_in}
 use Rattle.thread_tree.specs.Program.{Program}
 use Rattle.persistent_objects.specs.Holes.{AreHoles}
 use Rattle.persistent_objects.specs.Objects.{value_at}
-use Rattle.persistent_objects.proofs.Listed.{listed-at}
+use Rattle.kernel_image.specs.Decoded.{listed}
+use Rattle.std.proofs.Math.ListN.{get_or-eq_default}
+use Rattle.persistent_objects.proofs.Listed.{listed-at, length-listed}
 use Rattle.persistent_objects.proofs.FoundLaws.{IsThere, there, begun}
 use Rattle.persistent_objects.proofs.FieldLaws.{field-sound}
 use Rattle.persistent_objects.proofs.HoleLaws.{holes-inside, holes-with}
@@ -33,11 +35,22 @@ field_below p heap live place kind field h =
     let end = laid-end p heap place (begun live) first_place h.sound.laid h.object.stands in
     omega (arith, h.within, end)
 
--- its value is that word
-pub field_value : (p : Program) (heap live : List ℕ) (place kind field : ℕ) → IsField p heap live place kind field → Some (slice_index heap (place + 1 + field)) ≡ value_at (object_of (objects_in p heap live) place kind) field
-field_value p heap live place kind field h =
-    ap (λ (n : ℕ). Some n) (sym (listed-at (width p heap place) (λ f. slice_index heap (place + 1 + f)) field 0 h.within))
-    ∙ ap (λ (o : Option Object). value_at o field) (sym h.object.is)
+-- the value of a field of a live object is a word of the heap
+pub field_value : (p : Program) (heap live : List ℕ) (place kind field : ℕ) → is_some (object_of (objects_in p heap live) place kind) ≡ true → field < length (fields_of p kind) → Some (slice_index heap (place + 1 + field)) ≡ value_at (object_of (objects_in p heap live) place kind) field
+field_value p heap live place kind field some low =
+    let object = there p heap live place kind some in
+    let within : field < width p heap place = subst (λ (n : ℕ). field < length (fields_of p n)) (sym object.of_kind) low in
+    ap (λ (n : ℕ). Some n) (sym (listed-at (width p heap place) (λ f. slice_index heap (place + 1 + f)) field 0 within))
+    ∙ ap (λ (o : Option Object). value_at o field) (sym object.is)
+
+-- what the type doesn't have is 0
+pub field_past : (p : Program) (heap live : List ℕ) (place kind field : ℕ) → is_some (object_of (objects_in p heap live) place kind) ≡ true → length (fields_of p kind) ≤ field → Some 0 ≡ value_at (object_of (objects_in p heap live) place kind) field
+field_past p heap live place kind field some past =
+    let object = there p heap live place kind some in
+    let long = length-listed (width p heap place) (λ f. slice_index heap (place + 1 + f)) in
+    let within : width p heap place ≤ field = subst (λ (n : ℕ). length (fields_of p n) ≤ field) (sym object.of_kind) past in
+    ap (λ (n : ℕ). Some n) (sym (get_or-eq_default (listed (width p heap place) (λ f. slice_index heap (place + 1 + f))) 0 {n = field} (omega (arith, long, within))))
+    ∙ ap (λ (o : Option Object). value_at o field) (sym object.is)
 
 -- a store there changes the field of this object alone
 pub field_stored : (p : Program) (heap live : List ℕ) (place kind field value : ℕ) → length heap ≡ 4096 → IsField p heap live place kind field → objects_in p (slice_set heap (place + 1 + field) value) live ≡ with_field (objects_in p heap live) place field value

@@ -11,9 +11,6 @@ pub ruleset word_laws = (heap_word_at, live_word_at)
 -- for finding an object
 pub ruleset finding_laws = (found_odd, found_past, found_even)
 
--- for reading a field
-pub ruleset loading_laws = (heap_word_at)
-
 -- for storing one
 pub ruleset storing_laws = (length_heap)
 

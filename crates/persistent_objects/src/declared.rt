@@ -129,9 +129,9 @@ pub fn field_number(program: &Checked, kind: u32, name: u32) -> u32
     }
 }
 
-// How many fields a type has; 0 where it isn't declared.
+/// How many fields a type has, at most 10; 0 where it isn't declared.
 #[tactic(auto, using(crate::proofs::LawSets::number_laws))]
-pub(crate) fn field_count(program: &Checked, kind: u32) -> u32
+pub fn field_count(program: &Checked, kind: u32) -> u32
     ensures count { result ≡ length (fields_of (program_of program.now) kind) }
     ensures few { result ≤ 10 }
 {

@@ -1,5 +1,5 @@
 // Which live object a reference names.
-ghost use Rattle.std.specs.Prelude.{◌≡◌, ◌<◌, ◌-◌, ◌%◌, slice_index, is_some};
+ghost use Rattle.std.specs.Prelude.{◌≡◌, ◌<◌, ◌-◌, ◌%◌, slice_index, is_some, true};
 ghost use Rattle.thread_tree.specs.Program.{program_of};
 ghost use Rattle.kernel_model.specs.Objects.{object_of};
 ghost use Rattle.kernel_image.specs.Decoded.{image_in};
@@ -34,6 +34,7 @@ fn kind_at<W: Words>(words: &W, place: u32) -> u32
 #[tactic(auto, using(crate::proofs::LawSets::finding_laws))]
 pub(crate) fn is_object<W: Words>(words: &W, program: &Checked, place: u32, kind: u32) -> bool
     ensures is { is_some (object_of (objects_of (program_of program.now) (image_in (W.present words.now))) place kind) ≡ result }
+    ensures low { result ≡ true → place < 4096 }
 {
     let _ = program;
     if place % 2 == 1 {

@@ -10,7 +10,7 @@ mod stop;
 mod storing;
 mod what;
 
-pub use declared::{field_number, kind_number, object_number};
+pub use declared::{field_count, field_number, kind_number, object_number};
 pub use loading::load;
 pub use statics::{Static, static_object};
 pub use stop::{BadReference, Stop};
