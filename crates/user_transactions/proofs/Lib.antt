@@ -1,1 +1,3 @@
+pub mod LocalLaws
 pub mod ReadLaws
+pub mod StoreLaws

@@ -2,8 +2,11 @@
 #![tactic(auto)]
 
 mod expressions;
+mod moves;
 mod references;
+mod step;
 mod tx_end;
 mod values;
+mod work;
 
 pub use tx_end::TxEnd;
