@@ -1,3 +1,5 @@
+pub mod GiveLaws
+pub mod KeepLaws
 pub mod LocalLaws
 pub mod ReadLaws
 pub mod StoreLaws

@@ -1,10 +1,12 @@
 //! The `atomic` blocks of a program, performed on the objects in the words within one transaction.
 #![tactic(auto)]
 
+mod ends;
 mod expressions;
 mod moves;
 mod references;
 mod step;
+mod steps;
 mod tx_end;
 mod values;
 mod work;

@@ -80,7 +80,7 @@ pub(crate) fn set<N: Nv>(tx: &Open<N>, program: &Checked, work: &mut Work, at: A
 
 /// What a store to a field makes of the block: one operation more, or its fault.
 #[tactic(auto, using(crate::proofs::StoreLaws::store_laws))]
-fn store_at<N: Nv>(tx: &mut Open<N>, program: &Checked, work: &mut Work, field: FieldOf, value: u32) -> Result<Option<u32>, Cut>
+pub(crate) fn store_at<N: Nv>(tx: &mut Open<N>, program: &Checked, work: &mut Work, field: FieldOf, value: u32) -> Result<Option<u32>, Cut>
     requires objects { AreSoundObjects (program_of program.now) (objects_of (program_of program.now) (image_in (N.words tx.old))) }
     requires few { work.old.operations ≤ 64 }
     requires room { 64 ≤ room_of (N.words tx.old) + work.old.operations }
