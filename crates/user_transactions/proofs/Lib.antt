@@ -1,5 +1,6 @@
 pub mod GiveLaws
 pub mod KeepLaws
 pub mod LocalLaws
+pub mod MoveLaws
 pub mod ReadLaws
 pub mod StoreLaws

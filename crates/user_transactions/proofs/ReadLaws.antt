@@ -1,9 +1,9 @@
 -- The values of fields and of expressions.
-use Rattle.std.proofs.Common.{◌≡◌, ℕ, ◌+◌, ◌<◌, ◌≤◌, Bool, true, false, refl, ap, sym, ◌∙◌, arith}
+use Rattle.std.proofs.Common.{◌≡◌, ℕ, ◌+◌, ◌<◌, ◌≤◌, true, false, refl, ap, sym, ◌∙◌, arith}
 use Rattle.std.proofs.lemmas.Bool.Decides.{nat_tests}
 use Rattle.std.proofs.lemmas.Option.{none-some}
-use Rattle.std.specs.Prelude.{List, nat_lt, if◌then◌else◌, Option, Some, None, Result, Ok, Err}
-use Rattle.kernel_model.specs.Transactions.{Read, Reference, reference_of, counted, loaded, load, read, with_read, bad_reference, too_many_operations, most_operations}
+use Rattle.std.specs.Prelude.{List, nat_lt, Option, Some, None, Result, Ok, Err}
+use Rattle.kernel_model.specs.Transactions.{Read, Reference, reference_of, counted, loaded, load, bad_reference, too_many_operations, most_operations}
 use Rattle.kernel_model.specs.Objects.{object_of}
 use Rattle.kernel_model.specs.Visible.{Object}
 use Rattle.thread_tree.specs.declared.local.Local.{Local}

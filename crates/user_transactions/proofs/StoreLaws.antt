@@ -2,8 +2,8 @@
 use Rattle.std.proofs.Common.{◌≡◌, ℕ, ◌+◌, ◌<◌, ◌≤◌, ◌==◌, set, true≢false, Bool, true, false, List, [], ◌∷◌, refl, ap, sym, ◌∙◌, arith, length, subst}
 use Rattle.std.proofs.lemmas.Bool.Decides.{nat_tests}
 use Rattle.std.proofs.lemmas.Option.{none-some}
-use Rattle.std.specs.Prelude.{nat_lt, if◌then◌else◌, Option, Some, None, is_some, Result, Ok, Err}
-use Rattle.kernel_model.specs.Transactions.{Work, Thing, Reference, reference_of, stored, operated, counted, bad_reference, too_many_operations, most_operations}
+use Rattle.std.specs.Prelude.{nat_lt, if◌then◌else◌, Option, Some, None, is_some, Ok, Err}
+use Rattle.kernel_model.specs.Transactions.{Work, Thing, Reference, reference_of, stored, operated, bad_reference, too_many_operations, most_operations}
 use Rattle.std.specs.Prelude.{◌&&◌}
 use Rattle.std.specs.List.{AllByRecursion}
 use Rattle.std.proofs.lemmas.List.{set_past}

@@ -1,5 +1,5 @@
 -- What a move of a block made of it.
-use Rattle.std.specs.Prelude.{◌≡◌, ℕ, Bool, true, false, List, [], ◌∷◌, ◌++◌, length, option_copied, Result, Ok, Err, Option, Some, None}
+use Rattle.std.specs.Prelude.{◌≡◌, ℕ, Bool, true, false, List, ◌∷◌, ◌++◌, length, option_copied, Result, Ok, Err, Option, Some, None}
 use Rattle.kernel_image.specs.Decoded.{Decoded}
 use Rattle.kernel_model.specs.Transactions as model
 use Rattle.kernel_model.specs.Transactions.{Thing, ended_by, moved_by, things, broken_off}

@@ -1,9 +1,8 @@
 -- A block at work, and what the code has done of it.
-use Rattle.std.specs.Prelude.{◌≡◌, ℕ, ◌+◌, ◌*◌, ◌-◌, ◌≤◌, List, [], ◌∷◌, ◌++◌, length, take, Result, Ok, Err, Option, Some, None}
+use Rattle.std.specs.Prelude.{◌≡◌, ℕ, List, take, Result, Ok, Err, Option, Some, None}
 use Rattle.nv_memory.specs.declared.nv.Nv.{Ghosts}
 use Rattle.undo_journal.specs.Lending.{IsLent, IsWithin}
 use Rattle.kernel_image.specs.Decoded.{Decoded, image_in}
-use Rattle.kernel_model.specs.Visible.{Object}
 use Rattle.kernel_model.specs.Sound.{AreSoundObjects}
 use Rattle.kernel_model.specs.Transactions as model
 use Rattle.kernel_model.specs.Transactions.{Thing, BlockEnd, block_by, moved_by}

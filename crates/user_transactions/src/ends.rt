@@ -46,7 +46,12 @@ fn give<N: Nv>(tx: &Open<N>, program: &Checked, work: &Work, es: &List<Expr>) ->
 }
 
 /// How a statement ends the block, if it does.
-pub(crate) fn ending<N: Nv>(tx: &Open<N>, program: &Checked, work: &Work, statement: &TStmt) -> Option<TxEnd>
+pub(crate) fn ending<N: Nv>(
+    tx: &Open<N>,
+    program: &Checked,
+    work: &Work,
+    statement: &TStmt,
+) -> Option<TxEnd>
     ensures ended { IsEnding (program_of program.now) (image_in (N.words tx.now)) work.now (out-TStmt statement.now) result }
 {
     match statement {

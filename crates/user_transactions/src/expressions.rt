@@ -22,7 +22,13 @@ pub(crate) struct Found {
 
 // The value of a field of an object.
 #[tactic(auto, using(crate::proofs::ReadLaws::load_laws))]
-fn load<W: Words>(words: &W, program: &Checked, locals: &[Local], field: FieldOf, operations: u32) -> Result<Found, u32>
+fn load<W: Words>(
+    words: &W,
+    program: &Checked,
+    locals: &[Local],
+    field: FieldOf,
+    operations: u32,
+) -> Result<Found, u32>
     ensures read { seen_read result ≡ load (program_of program.now) (objects_of (program_of program.now) (image_in (W.present words.now))) locals.now field operations }
     ensures few { operations ≤ 64 → IfOk result (λ r. r.operations ≤ 64) }
     ensures more { IfOk result (λ r. operations ≤ r.operations) }
@@ -42,7 +48,13 @@ fn load<W: Words>(words: &W, program: &Checked, locals: &[Local], field: FieldOf
 
 /// The value of an expression after so many operations, or the fault of a field that it reads.
 #[tactic(auto, using(crate::proofs::ReadLaws::read_laws))]
-pub(crate) fn read<W: Words>(words: &W, program: &Checked, locals: &[Local], expr: &Expr, operations: u32) -> Result<Found, u32>
+pub(crate) fn read<W: Words>(
+    words: &W,
+    program: &Checked,
+    locals: &[Local],
+    expr: &Expr,
+    operations: u32,
+) -> Result<Found, u32>
     ensures read { seen_read result ≡ read (program_of program.now) (objects_of (program_of program.now) (image_in (W.present words.now))) locals.now expr.now operations }
     ensures few { operations ≤ 64 → IfOk result (λ r. r.operations ≤ 64) }
     ensures more { IfOk result (λ r. operations ≤ r.operations) }

@@ -1,8 +1,12 @@
 //! The `atomic` blocks of a program, performed on the objects in the words within one transaction.
 #![tactic(auto)]
 
+mod acts;
 mod ends;
 mod expressions;
+mod fate;
+mod leaving;
+mod level;
 mod moves;
 mod references;
 mod step;

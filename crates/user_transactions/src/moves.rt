@@ -13,8 +13,8 @@ ghost use Rattle.thread_tree.specs.LocalState.{with_value};
 ghost use Rattle.user_transactions.specs.Works.{IsRead, Moved, Stored, Keeps};
 
 use crate::expressions::read;
-use crate::work::Work;
 use crate::references::reference_of;
+use crate::work::Work;
 use arrayvec::ArrayVec;
 use nv_memory::{Cut, Nv};
 use persistent_objects::{BadReference, Stop, field_count};
@@ -23,7 +23,12 @@ use thread_tree::{At, Expr, FieldOf, Local};
 use undo_journal::Open;
 
 /// The value of an expression, whose operations are counted; or the fault of a field that it reads.
-pub(crate) fn value<N: Nv>(tx: &Open<N>, program: &Checked, work: &mut Work, e: &Expr) -> Result<u32, u32>
+pub(crate) fn value<N: Nv>(
+    tx: &Open<N>,
+    program: &Checked,
+    work: &mut Work,
+    e: &Expr,
+) -> Result<u32, u32>
     ensures value { IsRead (read (program_of program.now) (objects_of (program_of program.now) (image_in (N.words tx.now))) work.old.locals.items e.now work.old.operations) work.new result }
     ensures kept { work.new ≡ record work.old { operations = work.new.operations } }
     ensures few { work.old.operations ≤ 64 → work.new.operations ≤ 64 }
@@ -48,7 +53,13 @@ fn assign(locals: &mut ArrayVec<Local, 48>, name: u32, value: u32)
 }
 
 /// The declaration of a local.
-pub(crate) fn declare<N: Nv>(tx: &Open<N>, program: &Checked, work: &mut Work, at: At, e: &Expr) -> Result<(), u32>
+pub(crate) fn declare<N: Nv>(
+    tx: &Open<N>,
+    program: &Checked,
+    work: &mut Work,
+    at: At,
+    e: &Expr,
+) -> Result<(), u32>
     requires room { length work.old.locals.items < 48 }
     ensures moved { Moved (program_of program.now) (image_in (N.words tx.now)) work.old (image_in (N.words tx.now)) work.new (tstmt.Let at e.now) result }
     ensures grown { length work.new.locals.items ≤ length work.old.locals.items + 1 }
@@ -66,7 +77,13 @@ pub(crate) fn declare<N: Nv>(tx: &Open<N>, program: &Checked, work: &mut Work, a
 
 /// The assignment of a local.
 #[tactic(auto, using(crate::proofs::LocalLaws::set_laws))]
-pub(crate) fn set<N: Nv>(tx: &Open<N>, program: &Checked, work: &mut Work, at: At, e: &Expr) -> Result<(), u32>
+pub(crate) fn set<N: Nv>(
+    tx: &Open<N>,
+    program: &Checked,
+    work: &mut Work,
+    at: At,
+    e: &Expr,
+) -> Result<(), u32>
     ensures moved { Moved (program_of program.now) (image_in (N.words tx.now)) work.old (image_in (N.words tx.now)) work.new (tstmt.Set at e.now) result }
     ensures grown { length work.new.locals.items ≤ length work.old.locals.items }
     ensures moves { work.new.moves ≡ work.old.moves }
@@ -80,7 +97,13 @@ pub(crate) fn set<N: Nv>(tx: &Open<N>, program: &Checked, work: &mut Work, at: A
 
 /// What a store to a field makes of the block: one operation more, or its fault.
 #[tactic(auto, using(crate::proofs::StoreLaws::store_laws))]
-pub(crate) fn store_at<N: Nv>(tx: &mut Open<N>, program: &Checked, work: &mut Work, field: FieldOf, value: u32) -> Result<Option<u32>, Cut>
+pub(crate) fn store_at<N: Nv>(
+    tx: &mut Open<N>,
+    program: &Checked,
+    work: &mut Work,
+    field: FieldOf,
+    value: u32,
+) -> Result<Option<u32>, Cut>
     requires objects { AreSoundObjects (program_of program.now) (objects_of (program_of program.now) (image_in (N.words tx.old))) }
     requires few { work.old.operations ≤ 64 }
     requires room { 64 ≤ room_of (N.words tx.old) + work.old.operations }

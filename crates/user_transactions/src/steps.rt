@@ -23,7 +23,14 @@ use thread_tree::{Expr, FieldOf, TBlock, TStmt};
 use undo_journal::Open;
 
 // An `if`: the block that it chooses is entered, if there is one.
-fn branch<'a, N: Nv>(tx: &Open<N>, program: &Checked, work: &mut Work, e: &Expr, block: &'a TBlock, other: &'a Option<TBlock>) -> Step<'a>
+fn branch<'a, N: Nv>(
+    tx: &Open<N>,
+    program: &Checked,
+    work: &mut Work,
+    e: &Expr,
+    block: &'a TBlock,
+    other: &'a Option<TBlock>,
+) -> Step<'a>
     ensures stepped { Stepped (program_of program.now) (image_in (N.words tx.now)) work.old (image_in (N.words tx.now)) work.new (tstmt.If e.now block.now other.now) result }
     ensures kept { work.new ≡ record work.old { operations = work.new.operations } }
     ensures few { work.old.operations ≤ 64 → work.new.operations ≤ 64 }
@@ -44,7 +51,13 @@ fn branch<'a, N: Nv>(tx: &Open<N>, program: &Checked, work: &mut Work, e: &Expr,
 }
 
 // A `while`: its block is entered, or passed.
-fn turn<'a, N: Nv>(tx: &Open<N>, program: &Checked, work: &mut Work, e: &'a Expr, block: &'a TBlock) -> Step<'a>
+fn turn<'a, N: Nv>(
+    tx: &Open<N>,
+    program: &Checked,
+    work: &mut Work,
+    e: &'a Expr,
+    block: &'a TBlock,
+) -> Step<'a>
     ensures stepped { Stepped (program_of program.now) (image_in (N.words tx.now)) work.old (image_in (N.words tx.now)) work.new (tstmt.While e.now block.now) result }
     ensures kept { work.new ≡ record work.old { operations = work.new.operations } }
     ensures few { work.old.operations ≤ 64 → work.new.operations ≤ 64 }
@@ -62,7 +75,13 @@ fn turn<'a, N: Nv>(tx: &Open<N>, program: &Checked, work: &mut Work, e: &'a Expr
 }
 
 // A store to a field.
-fn store<'a, N: Nv>(tx: &mut Open<N>, program: &Checked, work: &mut Work, field: FieldOf, e: &Expr) -> Result<Step<'a>, Cut>
+fn store<'a, N: Nv>(
+    tx: &mut Open<N>,
+    program: &Checked,
+    work: &mut Work,
+    field: FieldOf,
+    e: &Expr,
+) -> Result<Step<'a>, Cut>
     requires objects { AreSoundObjects (program_of program.now) (objects_of (program_of program.now) (image_in (N.words tx.old))) }
     requires few { work.old.operations ≤ 64 }
     requires room { 64 ≤ room_of (N.words tx.old) + work.old.operations }
@@ -86,7 +105,12 @@ fn store<'a, N: Nv>(tx: &mut Open<N>, program: &Checked, work: &mut Work, field:
 
 /// Makes the move that a statement is.
 #[tactic(auto, using(crate::proofs::KeepLaws::keep_laws))]
-pub(crate) fn step<'a, N: Nv>(tx: &mut Open<N>, program: &Checked, work: &mut Work, statement: &'a TStmt) -> Result<Step<'a>, Cut>
+pub(crate) fn step<'a, N: Nv>(
+    tx: &mut Open<N>,
+    program: &Checked,
+    work: &mut Work,
+    statement: &'a TStmt,
+) -> Result<Step<'a>, Cut>
     requires served { IsTrue (is_served_tlayer is_served_tblock (out-TStmt statement.now)) }
     requires a_move { ends (out-TStmt statement.now) ≡ false }
     requires objects { AreSoundObjects (program_of program.now) (objects_of (program_of program.now) (image_in (N.words tx.old))) }

@@ -1,5 +1,5 @@
 -- A value more, or a fault.
-use Rattle.std.proofs.Common.{◌≡◌, ℕ, List, refl, ap, sym, subst, ◌∙◌}
+use Rattle.std.proofs.Common.{ℕ, List, refl, ap, sym, subst, ◌∙◌}
 use Rattle.std.specs.Prelude.{Result}
 use Rattle.thread_tree.specs.declared.local.Local.{Local}
 use Rattle.thread_tree.specs.Program.{program_of}
