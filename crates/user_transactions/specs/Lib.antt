@@ -1,0 +1,4 @@
+pub mod Fates
+pub mod Seen
+pub mod Steps
+pub mod Works

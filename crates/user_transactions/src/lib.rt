@@ -1,0 +1,18 @@
+//! The `atomic` blocks of a program, performed on the objects in the words within one transaction.
+#![tactic(auto)]
+
+mod acts;
+mod ends;
+mod expressions;
+mod fate;
+mod leaving;
+mod level;
+mod moves;
+mod references;
+mod step;
+mod steps;
+mod tx_end;
+mod values;
+mod work;
+
+pub use tx_end::TxEnd;
