@@ -8,3 +8,6 @@ pub mod ArriveLaws
 pub mod ResultLaws
 pub mod ServedLaws
 pub mod BlockLaws
+pub mod AnewLaws
+pub mod GivenLaws
+pub mod BlockEndLaws

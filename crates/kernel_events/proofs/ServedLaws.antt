@@ -1,5 +1,5 @@
 -- The statements of served actions.
-use Rattle.std.proofs.Common.{◌≡◌, ℕ, ◌≤◌, List, length, Option, Some, None, Bool, true, false, refl, ap, sym, subst, ◌∙◌}
+use Rattle.std.proofs.Common.{◌≡◌, ℕ, ◌-◌, ◌≤◌, List, length, Option, Some, None, Bool, true, false, refl, ap, sym, subst, ◌∙◌}
 use Rattle.std.specs.Prelude.{IsTrue}
 use Rattle.thread_tree.specs.declared.action.Call.{Call}
 use Rattle.thread_tree.specs.declared.action.Call.TheVariants as call
@@ -12,7 +12,7 @@ use Rattle.thread_tree.specs.declared.place.At.{At}
 use Rattle.thread_tree.specs.declared.place.Place.{Place}
 use Rattle.thread_tree.specs.declared.transaction.TBlock.{TBlock}
 use Rattle.served_program.specs.Served.{is_served_action, is_served_call, is_served_tblock}
-use Rattle.small_actions.specs.Small.{IsSmallAction, IsSmallCall}
+use Rattle.small_actions.specs.Small.{IsSmallAction, IsSmallCall, block_gives}
 use Rattle.kernel_events.specs.Actions.{printed_by, printed_items, block_names}
 
 -- a statement that prints these items
@@ -83,16 +83,16 @@ one-call (call.Waiting queue) served none = cc
 
 -- a served action is one of the two
 pub one-of : (layer : Stmt-F Stmt Block) → IsTrue (is_served_action layer) → printed_items layer ≡ None → block_names layer ≡ None → ⊥
-one-of (stmt.Let at e) served none no = cc
-one-of (stmt.Set at e) served none no = cc
-one-of (stmt.Apply to callee arguments) served none no = cc
-one-of (stmt.If e block other) served none no = cc
-one-of (stmt.While e block) served none no = cc
-one-of (stmt.Ploop place block) served none no = cc
-one-of (stmt.Break place) served none no = cc
-one-of (stmt.Return place value) served none no = cc
-one-of (stmt.Atomic place to block) served none no = cc
-one-of (stmt.Call place c to) served none no = one-call c served none
+one-of (stmt.Let at e) served none names = cc
+one-of (stmt.Set at e) served none names = cc
+one-of (stmt.Apply to callee arguments) served none names = cc
+one-of (stmt.If e block other) served none names = cc
+one-of (stmt.While e block) served none names = cc
+one-of (stmt.Ploop place block) served none names = cc
+one-of (stmt.Break place) served none names = cc
+one-of (stmt.Return place value) served none names = cc
+one-of (stmt.Atomic place to block) served none names = cc
+one-of (stmt.Call place c to) served none names = one-call c served none
 
 -- a small print has few items
 pub few-items : (layer : Stmt-F Stmt Block) (items : List Item) → printed_items layer ≡ Some items → IsSmallAction layer → length items ≤ 8
@@ -109,3 +109,8 @@ few-names layer to found small =
 -- a served block
 pub served-block : (layer : Stmt-F Stmt Block) (to : List At) (is : IsBlockOf layer to) → IsTrue (is_served_action layer) → IsTrue (is_served_tblock is.body)
 served-block layer to is served = subst (λ (layer : Stmt-F Stmt Block). IsTrue (is_served_action layer)) is.is served
+
+-- a small block gives as many values as it has to
+pub small-gives : (layer : Stmt-F Stmt Block) (to : List At) (is : IsBlockOf layer to) → IsSmallAction layer → block_gives (length to - 1) is.body ≡ true
+small-gives layer to is small =
+    let block : IsSmallAction (stmt.Atomic is.place to is.body) = subst (λ layer. IsSmallAction layer) is.is small in block.gives

@@ -11,5 +11,6 @@ mod prints;
 mod running;
 mod serving;
 mod stepping;
+mod stub;
 
 pub use stepping::event;
