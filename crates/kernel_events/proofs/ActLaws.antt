@@ -47,7 +47,7 @@ use Rattle.kernel_events.specs.Actions.{IsServed, IsPrinted, print_action, fits_
 use Rattle.kernel_events.specs.Follows.{Follows}
 use Rattle.kernel_events.proofs.FollowLaws.{IsCounted, follows-row, follows-nobody, served-is, stopped-is, thread-row}
 use Rattle.kernel_events.proofs.StepLaws.{run_ahead, wanted, step-acted, step-nobody}
-use Rattle.kernel_events.proofs.BothLemmas.{set-at}
+use Rattle.kernel_events.proofs.SetLaws.{set-at}
 
 -- what follows a sound kernel stands for it
 pub stands-after : (p : Program) (d : Decoded) (contexts : List (Option Ctx)) (K : State) → IsSound p K → Follows p d contexts K → KernelStands p d contexts K
@@ -129,7 +129,7 @@ module _ (p : Program) (d new : Decoded) (before : List (Option Ctx)) (K : State
       let stepped = step-acted p K t thread s some lives arrival no_more in
       let effect : effect_of p (run_ahead p K t thread) t locals s ≡ print (run_ahead p K t thread) bytes = ap (effect_of_layer p (run_ahead p K t thread) t locals) layer ∙ ap (print (run_ahead p K t thread)) (sym line) in
       let after : one p K Step ≡ settle t (Serves (ok_of fits ∷ [])) (record (run_ahead p K t thread) { console = printed_on fits K.console bytes; objects = K.objects }) =
-          stepped ∙ ap (settled t) effect ∙ printed-by (run_ahead p K t thread) t bytes fits same_fits in
+      stepped ∙ ap (settled t) effect ∙ printed-by (run_ahead p K t thread) t bytes fits same_fits in
       let on : console_in new ≡ printed_on fits K.console bytes = printed.console ∙ ap (λ console. printed_on fits console bytes) stands.image.console in
       let live : new.live ≡ d.live = ap (λ (x : Decoded). x.live) printed.served.rest in
       let first : new.first_hole ≡ d.first_hole = ap (λ (x : Decoded). x.first_hole) printed.served.rest in

@@ -38,7 +38,7 @@ use Rattle.kernel_events.specs.Follows.{Arrives}
 use Rattle.std.proofs.lemmas.List.Elements.{All-get_or}
 use Rattle.kernel_model.specs.Kernel.Row.{Free}
 use Rattle.kernel_events.proofs.FollowLaws.{thread-row}
-use Rattle.kernel_events.proofs.BothLemmas.{set-again}
+use Rattle.kernel_events.proofs.SetLaws.{set-again}
 use Rattle.kernel_events.proofs.StepLaws.{wanted, step-no_room, step-finished, step-watchdog}
 use Rattle.kernel_events.proofs.ActLaws.{ServedLaw, needed_by, console-length, stands-printed, stands-stopped}
 
@@ -179,19 +179,21 @@ chosen-has p d contexts K t passes context stands some none =
 -- where it arrives
 pub arrives-at : (p : Program) (d : Decoded) (contexts : List (Option Ctx)) (K : State) (t : ℕ) (ctx now : Ctx) (n : Next) → PassesLaw → ContextLaw p → KernelStands p d contexts K → K.events < 1000000 → chosen K ≡ Some t → option_and_then (λ found. found) (slice_get contexts t) ≡ Some ctx → local_of p now ≡ (ahead p (local_of p ctx)).local → IsNext p (ahead p (local_of p ctx)).arrival n → IsContext p now → (thread : Thread) × Arrives p d (slice_set contexts t None) K t thread now n
 arrives-at p d contexts K t ctx now n passes context stands early some found moved arrived is_context =
-    let has = chosen-context p d contexts K t ctx passes context stands some found in
-    (has.0, record {
-      before = contexts;
-      stands = stands;
-      taken = refl;
-      early = early;
-      chosen = some;
-      lives = has.1;
-      ready = has.2;
-      arrived = moved ∙ ap (λ (s : LocalState). (ahead p s).local) has.3.local;
-      arrival = subst (λ (s : LocalState). IsNext p (ahead p s).arrival n) has.3.local arrived;
-      context = is_context;
-    })
+    let has = chosen-context p d contexts K t ctx passes context stands some found in (
+      has.0,
+      record {
+        before = contexts;
+        stands = stands;
+        taken = refl;
+        early = early;
+        chosen = some;
+        lives = has.1;
+        ready = has.2;
+        arrived = moved ∙ ap (λ (s : LocalState). (ahead p s).local) has.3.local;
+        arrival = subst (λ (s : LocalState). IsNext p (ahead p s).arrival n) has.3.local arrived;
+        context = is_context;
+      },
+    )
 
 finished-at : (p : Program) (arrival : Arrival) → IsNext p arrival next.Finished → arrival ≡ Finished
 finished-at p (AtAction statement) is = absurd is

@@ -48,8 +48,8 @@ use Rattle.kernel_events.proofs.StepLaws.{run_ahead}
 use Rattle.kernel_events.proofs.ActLaws.{ServedLaw, stands-stopped}
 use Rattle.kernel_events.proofs.ArriveLaws.{KeptLaw, action-here, used-is, stands-full}
 use Rattle.kernel_events.proofs.BlockLaws.{step-block, stands-results, block-needs}
-use Rattle.kernel_events.proofs.BothLemmas.{set-again}
-use Rattle.kernel_events.proofs.EndLaws.{image_outside, committed-more, lost-more, committed-then, lost-then}
+use Rattle.kernel_events.proofs.SetLaws.{set-again}
+use Rattle.kernel_events.proofs.EndLaws.{image_outside, fell-then, short-fell, committed-then, lost-then}
 use Rattle.kernel_events.proofs.GivenLaws.{BlockLaw, StatementLaw, gives-many}
 
 -- the first three of at most three are all
@@ -67,33 +67,19 @@ served-heap t kind results heap d new is = record { row = is.row; rest = ap (λ 
 pub image-anew : (old now new : List ℕ) → IsAtRest old → durable now ≡ durable old → outside new ≡ durable now → image_in new ≡ image_in old
 image-anew old now new rest same undone = image_outside old new (undone ∙ same ∙ durable-at_rest old rest)
 
-fell-both : (n m : ℕ) (first second third : Option ℕ) → FellWithin n first second → FellWithin m second third → FellWithin (n + m) first third
-fell-both n m None None None a b = tt
-fell-both n m None None (Some z) a b = b
-fell-both n m None (Some y) third a b = absurd a
-fell-both n m (Some x) None third a b = absurd a
-fell-both n m (Some x) (Some y) None a b = b
-fell-both n m (Some x) (Some y) (Some z) a b = (omega arith, omega arith)
-
-short-both : (n m : ℕ) (old new : Option ℕ) → FellWithin n old new → IsShort new m → IsShort old (n + m)
-short-both n m None None fell short = absurd short
-short-both n m None (Some y) fell short = absurd fell
-short-both n m (Some x) None fell short = absurd short
-short-both n m (Some x) (Some y) fell short = omega arith
-
 module _ {N : Type 0} (g : Ghosts N) where
   -- an end behind a transaction that was undone and opened anew, whose block was lent it
   pub ends-anew : {X : Type 0} (device : X → N) (old lent anew : N) (m : ℕ) (r : Result X N) → m ≤ 1000 → IsLent g old lent → IsWithin g old lent 960 → IsCommitted g 961 lent anew → outside (g.words anew) ≡ durable (g.words lent) → MatchResult r (λ x. IsCommitted g m anew (device x)) (IsLost g m anew) → MatchResult r (λ x. IsCommitted g 6400 old (device x)) (IsLost g 6400 old)
   ends-anew device old lent anew m (Ok x) few is within done undone end =
       committed-then g 960 (961 + m) 6400 old lent (device x) (omega (arith, few)) is within (record {
         at_rest = end.at_rest;
-        left = fell-both 961 m (g.left lent) (g.left anew) (g.left (device x)) done.left end.left;
+        left = fell-then 961 m (g.left lent) (g.left anew) (g.left (device x)) done.left end.left;
         to_come = end.to_come ∙ done.to_come;
         ends = end.ends ∙ done.ends;
       })
   ends-anew device old lent anew m (Err dark) few is within done undone end =
       lost-then g 960 (961 + m) 6400 old lent dark (omega (arith, few)) is within (record {
-        short = short-both 961 m (g.left lent) (g.left anew) done.left end.short;
+        short = short-fell 961 m (g.left lent) (g.left anew) done.left end.short;
         dark = end.dark;
         undone = end.undone ∙ durable-at_rest (g.words anew) done.at_rest ∙ undone;
         journalled = end.journalled;

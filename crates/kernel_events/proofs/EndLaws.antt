@@ -17,7 +17,7 @@ fell_spent n (Some left) = (omega arith, omega arith)
 pub image_outside : (old new : List ℕ) → outside new ≡ outside old → image_in new ≡ image_in old
 image_outside old new same = ap (λ words. decoded_of (cells words)) same
 
-fell-then : (n m : ℕ) (first second third : Option ℕ) → FellWithin n first second → FellWithin m second third → FellWithin (n + m) first third
+pub fell-then : (n m : ℕ) (first second third : Option ℕ) → FellWithin n first second → FellWithin m second third → FellWithin (n + m) first third
 fell-then n m None None None a b = tt
 fell-then n m None None (Some z) a b = b
 fell-then n m None (Some y) third a b = absurd a
@@ -35,7 +35,7 @@ short-more : (left : Option ℕ) (n m : ℕ) → n ≤ m → IsShort left n → 
 short-more None n m le short = short
 short-more (Some left) n m le short = omega arith
 
-short-fell : (n m : ℕ) (old new : Option ℕ) → FellWithin n old new → IsShort new m → IsShort old (n + m)
+pub short-fell : (n m : ℕ) (old new : Option ℕ) → FellWithin n old new → IsShort new m → IsShort old (n + m)
 short-fell n m None None fell short = absurd short
 short-fell n m None (Some y) fell short = absurd fell
 short-fell n m (Some x) None fell short = absurd short

@@ -23,7 +23,8 @@ use Rattle.kernel_image.specs.Shown.{items_of, objects_in}
 use Rattle.persistent_objects.specs.Holes.{AreHoles}
 use Rattle.replay_list.specs.Stands.{IsRow, HasContext, IsContextOf, KernelStands, items_in, counts_in, console_in}
 use Rattle.kernel_events.specs.Follows.{Follows}
-use Rattle.kernel_events.proofs.BothLemmas.{both-set, both-at, set-again, set-at}
+use Rattle.replay_list.proofs.BothLaws.{both_set}
+use Rattle.kernel_events.proofs.SetLaws.{set-again, set-at}
 use Rattle.kernel_events.proofs.StepLaws.{run_ahead}
 
 -- all but the row of a thread, the console and the heap is as before, and one event more is counted
@@ -36,7 +37,7 @@ module _ (p : Program) (d new : Decoded) (contexts : List (Option Ctx)) (K : Sta
   follows-row row ctx console objects stands rest is_row has_context on objects_are holes = record {
     events = ap (λ (x : Decoded). x.events) rest ∙ ap (λ n. n + 1) stands.image.events;
     ticks = ap (λ (x : Decoded). x.ticks) rest ∙ stands.image.ticks;
-    rows = subst (λ rows. Both (IsRow p) rows (slice_set K.rows t row)) (sym (ap (λ (x : Decoded). x.rows) rest)) (both-set (IsRow p) d.rows K.rows t (row_at new t) row stands.image.rows is_row);
+    rows = subst (λ rows. Both (IsRow p) rows (slice_set K.rows t row)) (sym (ap (λ (x : Decoded). x.rows) rest)) (both_set (IsRow p) d.rows K.rows t (row_at new t) row stands.image.rows is_row);
     queues = ap (λ (queues : List QueueWords). map (λ queue. items_of queue.1.capacity (slice_index_or queues queue.0 blank_queue)) (enumerate_from 0 p.queues)) (ap (λ (x : Decoded). x.queues) rest) ∙ stands.image.queues;
     counts = ap (λ (semaphores : List SemaphoreWords). map (λ semaphore. (slice_index_or semaphores semaphore.0 blank_semaphore).count) (enumerate_from 0 p.semaphores)) (ap (λ (x : Decoded). x.semaphores) rest) ∙ stands.image.counts;
     console = on;
@@ -44,7 +45,7 @@ module _ (p : Program) (d new : Decoded) (contexts : List (Option Ctx)) (K : Sta
     holes = holes;
     stamp = ap (λ (x : Decoded). x.stamp) rest ∙ stands.image.stamp;
     few_stamps = omega (arith, stands.image.few_stamps);
-    restored = both-set (HasContext p) contexts K.rows t ctx row stands.restored has_context;
+    restored = both_set (HasContext p) contexts K.rows t ctx row stands.restored has_context;
   }
 
   -- nobody was ready

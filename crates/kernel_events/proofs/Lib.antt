@@ -1,6 +1,6 @@
 pub mod PrintLemmas
 pub mod StepLaws
-pub mod BothLemmas
+pub mod SetLaws
 pub mod FollowLaws
 pub mod EndLaws
 pub mod ActLaws

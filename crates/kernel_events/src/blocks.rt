@@ -71,9 +71,7 @@ fn gave(values: ArrayVec<u32, 3>) -> ArrayVec<u32, 4>
 {
     let mut results = ArrayVec::new();
     results.push(1);
-    results
-        .try_extend_from_slice(values.as_slice())
-        .unwrap();
+    results.try_extend_from_slice(values.as_slice()).unwrap();
     results
 }
 
@@ -143,7 +141,16 @@ fn finish_action<N: Nv>(
     let mut tx = tx;
     let mut ctx = ctx;
     let mut contexts = contexts;
-    if conclude(&mut tx, program, &mut ctx, thread, kind_word, results.as_slice()).is_err() {
+    if conclude(
+        &mut tx,
+        program,
+        &mut ctx,
+        thread,
+        kind_word,
+        results.as_slice(),
+    )
+    .is_err()
+    {
         return Err(tx.lose());
     }
     contexts.set(thread, Some(ctx));
@@ -197,7 +204,15 @@ fn perform_block<N: Nv>(
         Ok(TxEnd::Aborted) => {
             let kind_word = ATOMIC + EACH_GIVEN * given;
             match anew(tx) {
-                Ok(tx) => finish_action(tx, program, contexts, ctx, thread, kind_word, zeros(given)),
+                Ok(tx) => finish_action(
+                    tx,
+                    program,
+                    contexts,
+                    ctx,
+                    thread,
+                    kind_word,
+                    zeros(given),
+                ),
                 Err(dark) => Err(dark),
             }
         }

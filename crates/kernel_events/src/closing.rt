@@ -44,7 +44,12 @@ pub fn halt<N: Nv>(tx: &mut Open<N>, thread: u32, code: u32) -> Result<(), Cut>
 }
 
 /// An event in which a thread ends.
-pub fn stop<N: Nv>(tx: Open<N>, contexts: Contexts, thread: u32, code: u32) -> Result<Kernel<N>, Dark<N>>
+pub fn stop<N: Nv>(
+    tx: Open<N>,
+    contexts: Contexts,
+    thread: u32,
+    code: u32,
+) -> Result<Kernel<N>, Dark<N>>
     requires thread { thread < 16 }
     requires events { (image_in (N.words tx)).events + 1 < 2 ^ 32 }
     requires room { 3 ≤ room_of (N.words tx) }

@@ -41,9 +41,7 @@ fn item_bytes(ctx: &Ctx, program: &Checked, item: &Item, which: u32) -> ArrayVec
     match item {
         Item::Text(_, text) => {
             let mut bytes = ArrayVec::new();
-            bytes
-                .try_extend_from_slice(text.bytes.as_slice())
-                .unwrap();
+            bytes.try_extend_from_slice(text.bytes.as_slice()).unwrap();
             bytes
         }
         Item::Value(_, _) => digits(ctx.operand(program, which)),

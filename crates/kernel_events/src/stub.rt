@@ -28,7 +28,12 @@ use thread_machine::Ctx;
 use undo_journal::Open;
 use user_transactions::TxEnd;
 
-pub fn perform<N: Nv>(tx: &mut Open<N>, program: &Checked, ctx: &mut Ctx, block: u32) -> Result<TxEnd, Cut>
+pub fn perform<N: Nv>(
+    tx: &mut Open<N>,
+    program: &Checked,
+    ctx: &mut Ctx,
+    block: u32,
+) -> Result<TxEnd, Cut>
     requires context { IsContext (program_of program.now) ctx.old }
     requires here { (s : Stmt) × (place : Place) × (to : List At) × (body : TBlock) × (slice_get (actions (program_of program.now)) block ≡ Some s) × (next_statement (local_of (program_of program.now) ctx.old).top.todo ≡ Some s) × (out-Stmt s ≡ stmt.Atomic place to body) × IsTrue (is_served_tblock body) }
     requires objects { AreSoundObjects (program_of program.now) (objects_of (program_of program.now) (image_in (N.words tx.old))) }

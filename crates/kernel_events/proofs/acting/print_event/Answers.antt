@@ -32,10 +32,10 @@ returns-then-words_used-gt-RECORD_ROOM-clause-happened g c =
     (λ next. (K : State) (runner : Thread) → Arrives p d c.args.contexts K t runner c.args.ctx (Action c.args.number) → KernelStands p (image_in (g.N.Nv.words next.idle)) next.contexts (one p K Step))
     c.stop.ensures.stopped c.stop.ensures.contexts
     (λ next image contexts K runner a.
-        let used = used-is p d c.args.contexts K t runner c.args.ctx (Action c.args.number) a in
-        let needs = print-needs p t runner h.0 h.1 c.args.items.now h.2 h.4 in
-        subst (λ contexts. KernelStands p (image_in (g.N.Nv.words next.idle)) contexts (one p K Step)) (sym contexts)
-        (stands-full p d c.args.contexts K t runner c.args.ctx c.args.number h.0 (image_in (g.N.Nv.words next.idle)) c.soundness.ensures.kept c.tree.ensures.within a h.3 (omega (arith, used, needs, c.words_used.ensures.used, c.if-words_used-gt-RECORD_ROOM.true)) image))
+    let used = used-is p d c.args.contexts K t runner c.args.ctx (Action c.args.number) a in
+    let needs = print-needs p t runner h.0 h.1 c.args.items.now h.2 h.4 in
+    subst (λ contexts. KernelStands p (image_in (g.N.Nv.words next.idle)) contexts (one p K Step)) (sym contexts)
+    (stands-full p d c.args.contexts K t runner c.args.ctx c.args.number h.0 (image_in (g.N.Nv.words next.idle)) c.soundness.ensures.kept c.tree.ensures.within a h.3 (omega (arith, used, needs, c.words_used.ensures.used, c.if-words_used-gt-RECORD_ROOM.true)) image))
 
 pub print-requires-clause-action : goal.print-requires-clause-action
 print-requires-clause-action g c =
@@ -60,6 +60,6 @@ returns-clause-happened g c =
     (λ next. (K : State) (runner : Thread) → Arrives p d c.args.contexts K t runner c.args.ctx (Action c.args.number) → KernelStands p (image_in (g.N.Nv.words next.idle)) next.contexts (one p K Step))
     c.commit.ensures.image c.commit.ensures.contexts
     (λ next image contexts K runner a.
-        subst (λ contexts. KernelStands p (image_in (g.N.Nv.words next.idle)) contexts (one p K Step)) (sym (contexts ∙ c.set.ensures.put))
-        (subst (λ image. KernelStands p image (slice_set c.args.contexts t (Some c.print.new.ctx)) (one p K Step)) (sym image)
-        (stands-print p d c.args.contexts K t runner c.args.ctx c.args.number h.0 h.1 c.args.items.now h.2 (image_in (g.N.Nv.words c.print.new.tx)) c.print.new.ctx (c.standing_laws.ensures.served p) c.soundness.ensures.kept c.tree.ensures.within a h.3 h.4 (search (rules, c.words_used.ensures.used)) (search rules) (search rules))))
+    subst (λ contexts. KernelStands p (image_in (g.N.Nv.words next.idle)) contexts (one p K Step)) (sym (contexts ∙ c.set.ensures.put))
+    (subst (λ image. KernelStands p image (slice_set c.args.contexts t (Some c.print.new.ctx)) (one p K Step)) (sym image)
+    (stands-print p d c.args.contexts K t runner c.args.ctx c.args.number h.0 h.1 c.args.items.now h.2 (image_in (g.N.Nv.words c.print.new.tx)) c.print.new.ctx (c.standing_laws.ensures.served p) c.soundness.ensures.kept c.tree.ensures.within a h.3 h.4 (search (rules, c.words_used.ensures.used)) (search rules) (search rules))))

@@ -38,5 +38,5 @@ returns-then-words_used-given-gt-RECORD_ROOM-clause-happened g c =
     (λ next. (K : State) (runner : Thread) → Arrives p d c.args.contexts K t runner c.args.ctx (Action c.args.number) → KernelStands p (image_in (g.N.Nv.words next.idle)) next.contexts (one p K Step))
     c.stop.ensures.stopped c.stop.ensures.contexts
     (λ next image contexts K runner a.
-        subst (λ contexts. KernelStands p (image_in (g.N.Nv.words next.idle)) contexts (one p K Step)) (sym contexts)
-        (stands-no_room p d c.args.contexts K t runner c.args.ctx c.args.number h.0 h.1 c.args.to.now h.2 (image_in (g.N.Nv.words next.idle)) c.soundness.ensures.kept c.tree.ensures.within a h.3 h.4 (omega (arith, c.words_used.ensures.used, c.given_by-given.ensures.given, c.if-words_used-given-gt-RECORD_ROOM.true)) image))
+    subst (λ contexts. KernelStands p (image_in (g.N.Nv.words next.idle)) contexts (one p K Step)) (sym contexts)
+    (stands-no_room p d c.args.contexts K t runner c.args.ctx c.args.number h.0 h.1 c.args.to.now h.2 (image_in (g.N.Nv.words next.idle)) c.soundness.ensures.kept c.tree.ensures.within a h.3 h.4 (omega (arith, c.words_used.ensures.used, c.given_by-given.ensures.given, c.if-words_used-given-gt-RECORD_ROOM.true)) image))

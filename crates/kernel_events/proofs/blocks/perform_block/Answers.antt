@@ -95,10 +95,10 @@ returns-in-Ok-Gave-clause-happened g c =
     (λ next. (K : State) (runner : Thread) → Arrives p d c.args.contexts K t runner c.args.ctx (Action c.args.number) → KernelStands p (image_in (g.N.Nv.words next.idle)) next.contexts (one p K Step))
     c.finish_action.ensures.recorded c.finish_action.ensures.bound
     (λ next recorded bound K runner arrives.
-        let ended = subst (λ end. IsEnd p end now (performed_end p d c.args.contexts K t runner c.args.ctx c.args.number h.0 h.1 h.2 h.3)) c.in-Ok-Gave.field-0-is (c.in-Ok-Gave.ensures.ended h.0 h.1 h.2 h.3 h.4 h.5) in
-        stands-gave p d c.args.contexts K t runner c.args.ctx c.args.number h.0 h.1 h.2 h.3 c.in-Ok-Gave.values now (image_in (g.N.Nv.words next.idle)) next.contexts c.small_actions.ensures.block c.small_actions.ensures.statement (c.standing_laws.ensures.served p) c.soundness.ensures.kept c.tree.ensures.within arrives h.4 h.5 (omega (arith, h.6, c.requires.fits)) (omega (arith, h.6, c.requires.few)) gives ended c.in-Ok-Gave.ensures.frame c.in-Ok-Gave.ensures.holes
-        (subst (λ n. IsRecordedEvent t n (1 ∷ c.in-Ok-Gave.values.items) now (image_in (g.N.Nv.words next.idle))) kind (subst (λ results. IsRecordedEvent t (16 + 256 * c.args.given) results now (image_in (g.N.Nv.words next.idle))) c.gave.ensures.results recorded))
-        (subst (λ ctx. IsBound p t (1 ∷ c.in-Ok-Gave.values.items) ctx c.args.contexts next.contexts) c.perform.ensures.same (subst (λ results. IsBound p t results c.perform.new.ctx c.args.contexts next.contexts) c.gave.ensures.results bound)))
+    let ended = subst (λ end. IsEnd p end now (performed_end p d c.args.contexts K t runner c.args.ctx c.args.number h.0 h.1 h.2 h.3)) c.in-Ok-Gave.field-0-is (c.in-Ok-Gave.ensures.ended h.0 h.1 h.2 h.3 h.4 h.5) in
+    stands-gave p d c.args.contexts K t runner c.args.ctx c.args.number h.0 h.1 h.2 h.3 c.in-Ok-Gave.values now (image_in (g.N.Nv.words next.idle)) next.contexts c.small_actions.ensures.block c.small_actions.ensures.statement (c.standing_laws.ensures.served p) c.soundness.ensures.kept c.tree.ensures.within arrives h.4 h.5 (omega (arith, h.6, c.requires.fits)) (omega (arith, h.6, c.requires.few)) gives ended c.in-Ok-Gave.ensures.frame c.in-Ok-Gave.ensures.holes
+    (subst (λ n. IsRecordedEvent t n (1 ∷ c.in-Ok-Gave.values.items) now (image_in (g.N.Nv.words next.idle))) kind (subst (λ results. IsRecordedEvent t (16 + 256 * c.args.given) results now (image_in (g.N.Nv.words next.idle))) c.gave.ensures.results recorded))
+    (subst (λ ctx. IsBound p t (1 ∷ c.in-Ok-Gave.values.items) ctx c.args.contexts next.contexts) c.perform.ensures.same (subst (λ results. IsBound p t results c.perform.new.ctx c.args.contexts next.contexts) c.gave.ensures.results bound)))
 
 pub returns-in-Ok-clause-happened : goal.returns-in-Ok-clause-happened
 returns-in-Ok-clause-happened g c =
@@ -116,10 +116,10 @@ returns-in-Ok-clause-happened g c =
     (λ next. (K : State) (runner : Thread) → Arrives p d c.args.contexts K t runner c.args.ctx (Action c.args.number) → KernelStands p (image_in (g.N.Nv.words next.idle)) next.contexts (one p K Step))
     c.finish_action-in-Ok.ensures.recorded c.finish_action-in-Ok.ensures.bound
     (λ next recorded bound K runner arrives.
-        let ended = subst (λ end. IsEnd p end now (performed_end p d c.args.contexts K t runner c.args.ctx c.args.number h.0 h.1 h.2 h.3)) c.in-Ok-Aborted.field-0-is (c.in-Ok-Aborted.ensures.ended h.0 h.1 h.2 h.3 h.4 h.5) in
-        stands-aborted p d c.args.contexts K t runner c.args.ctx c.args.number h.0 h.1 h.2 h.3 now (image_in (g.N.Nv.words next.idle)) next.contexts (c.standing_laws.ensures.served p) c.soundness.ensures.kept c.tree.ensures.within arrives h.4 h.5 (omega (arith, h.6, c.requires.fits)) ended
-        (subst (λ (x : Decoded). IsRecordedEvent t (16 + 256 * (length h.2 - 1)) (replicate (length h.2 - 1 + 1) 0) x (image_in (g.N.Nv.words next.idle))) image (subst (λ n. IsRecordedEvent t n (replicate (length h.2 - 1 + 1) 0) (image_in (g.N.Nv.words c.in-Ok.tx)) (image_in (g.N.Nv.words next.idle))) kind (subst (λ results. IsRecordedEvent t (16 + 256 * c.args.given) results (image_in (g.N.Nv.words c.in-Ok.tx)) (image_in (g.N.Nv.words next.idle))) results recorded)))
-        (subst (λ ctx. IsBound p t (replicate (length h.2 - 1 + 1) 0) ctx c.args.contexts next.contexts) c.perform.ensures.same (subst (λ results. IsBound p t results c.perform.new.ctx c.args.contexts next.contexts) results bound)))
+    let ended = subst (λ end. IsEnd p end now (performed_end p d c.args.contexts K t runner c.args.ctx c.args.number h.0 h.1 h.2 h.3)) c.in-Ok-Aborted.field-0-is (c.in-Ok-Aborted.ensures.ended h.0 h.1 h.2 h.3 h.4 h.5) in
+    stands-aborted p d c.args.contexts K t runner c.args.ctx c.args.number h.0 h.1 h.2 h.3 now (image_in (g.N.Nv.words next.idle)) next.contexts (c.standing_laws.ensures.served p) c.soundness.ensures.kept c.tree.ensures.within arrives h.4 h.5 (omega (arith, h.6, c.requires.fits)) ended
+    (subst (λ (x : Decoded). IsRecordedEvent t (16 + 256 * (length h.2 - 1)) (replicate (length h.2 - 1 + 1) 0) x (image_in (g.N.Nv.words next.idle))) image (subst (λ n. IsRecordedEvent t n (replicate (length h.2 - 1 + 1) 0) (image_in (g.N.Nv.words c.in-Ok.tx)) (image_in (g.N.Nv.words next.idle))) kind (subst (λ results. IsRecordedEvent t (16 + 256 * c.args.given) results (image_in (g.N.Nv.words c.in-Ok.tx)) (image_in (g.N.Nv.words next.idle))) results recorded)))
+    (subst (λ ctx. IsBound p t (replicate (length h.2 - 1 + 1) 0) ctx c.args.contexts next.contexts) c.perform.ensures.same (subst (λ results. IsBound p t results c.perform.new.ctx c.args.contexts next.contexts) results bound)))
 
 pub returns-in-Ok-clause-ends : goal.returns-in-Ok-clause-ends
 returns-in-Ok-clause-ends g c =
@@ -140,10 +140,10 @@ returns-in-Ok-anew-clause-happened g c =
     (λ next. (K : State) (runner : Thread) → Arrives p d c.args.contexts K t runner c.args.ctx (Action c.args.number) → KernelStands p (image_in (g.N.Nv.words next.idle)) next.contexts (one p K Step))
     c.stop.ensures.stopped c.stop.ensures.contexts
     (λ next stopped contexts K runner arrives.
-        let ended = subst (λ end. IsEnd p end now (performed_end p d c.args.contexts K t runner c.args.ctx c.args.number h.0 h.1 h.2 h.3)) c.in-Ok-Fault.field-0-is (c.in-Ok-Fault.ensures.ended h.0 h.1 h.2 h.3 h.4 h.5) in
-        subst (λ contexts. KernelStands p (image_in (g.N.Nv.words next.idle)) contexts (one p K Step)) (sym contexts)
-        (stands-faulted p d c.args.contexts K t runner c.args.ctx c.args.number h.0 h.1 h.2 h.3 c.in-Ok-Fault.code now (image_in (g.N.Nv.words next.idle)) c.soundness.ensures.kept c.tree.ensures.within arrives h.4 h.5 (omega (arith, h.6, c.requires.fits)) ended
-        (stopped ∙ ap (λ (x : Decoded). with_row (record x { events = x.events + 1 }) t (record (row_at x t) { state = 4; code = c.in-Ok-Fault.code })) image)))
+    let ended = subst (λ end. IsEnd p end now (performed_end p d c.args.contexts K t runner c.args.ctx c.args.number h.0 h.1 h.2 h.3)) c.in-Ok-Fault.field-0-is (c.in-Ok-Fault.ensures.ended h.0 h.1 h.2 h.3 h.4 h.5) in
+    subst (λ contexts. KernelStands p (image_in (g.N.Nv.words next.idle)) contexts (one p K Step)) (sym contexts)
+    (stands-faulted p d c.args.contexts K t runner c.args.ctx c.args.number h.0 h.1 h.2 h.3 c.in-Ok-Fault.code now (image_in (g.N.Nv.words next.idle)) c.soundness.ensures.kept c.tree.ensures.within arrives h.4 h.5 (omega (arith, h.6, c.requires.fits)) ended
+    (stopped ∙ ap (λ (x : Decoded). with_row (record x { events = x.events + 1 }) t (record (row_at x t) { state = 4; code = c.in-Ok-Fault.code })) image)))
 
 pub returns-in-Ok-anew-clause-ends : goal.returns-in-Ok-anew-clause-ends
 returns-in-Ok-anew-clause-ends g c =

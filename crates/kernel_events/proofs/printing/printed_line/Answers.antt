@@ -21,8 +21,9 @@ loop-at-preserved c =
     let more : c.try_extend_from_slice.new.self.items ≡ c.loop-at.bytes.items ++ c.item_bytes-piece.result.items = search rules in
     let bytes = printed_more (printed locals) c.args.items.now c.loop-at.at c.get-item.result.now c.get-item.ensures in
     let operands = printed_more operands_of_item c.args.items.now c.loop-at.at c.get-item.result.now c.get-item.ensures in
-    let count : c.loop-at.which + c.operand_count-which.result ≡ length (flat_map operands_of_item (take (c.loop-at.at + 1) c.args.items.now)) = rw operands (omega (arith, length-append (flat_map operands_of_item (take c.loop-at.at c.args.items.now)) (operands_of_item c.get-item.result.now), c.loop-at.invariant.1, c.operand_count-which.ensures.count)) in
-    (more ∙ ap (λ bytes. bytes ++ c.item_bytes-piece.result.items) c.loop-at.invariant.0 ∙ ap (λ piece. flat_map (printed locals) (take c.loop-at.at c.args.items.now) ++ piece) c.item_bytes-piece.ensures.bytes ∙ sym bytes,
-    count,
-    search rules,
-    search rules)
+    let count : c.loop-at.which + c.operand_count-which.result ≡ length (flat_map operands_of_item (take (c.loop-at.at + 1) c.args.items.now)) = rw operands (omega (arith, length-append (flat_map operands_of_item (take c.loop-at.at c.args.items.now)) (operands_of_item c.get-item.result.now), c.loop-at.invariant.1, c.operand_count-which.ensures.count)) in (
+      more ∙ ap (λ bytes. bytes ++ c.item_bytes-piece.result.items) c.loop-at.invariant.0 ∙ ap (λ piece. flat_map (printed locals) (take c.loop-at.at c.args.items.now) ++ piece) c.item_bytes-piece.ensures.bytes ∙ sym bytes,
+      count,
+      search rules,
+      search rules,
+    )

@@ -50,9 +50,9 @@ returns-in-Finished-clause-happened g c =
     (λ next. (K : State) → KernelStands p d c.args.contexts K → K.events < 1000000 → chosen K ≡ Some t → KernelStands p (image_in (g.N.Nv.words next.idle)) next.contexts (one p K Step))
     c.stop.ensures.stopped c.stop.ensures.contexts
     (λ next image contexts K stands early some.
-        let has = arrives-at p d c.args.contexts K t c.in-Some.ctx c.ahead.new.self Finished c.order.ensures.passes (c.standing_laws.ensures.context p) stands early some (sym c.take.ensures.taken ∙ c.in-Some.is) c.ahead.ensures.moved c.in-Finished.ensures.arrived c.ahead.ensures.context in
-        subst (λ contexts. KernelStands p (image_in (g.N.Nv.words next.idle)) contexts (one p K Step)) (sym (contexts ∙ c.take.ensures.left))
-        (stands-finished p d (slice_set c.args.contexts t None) K t has.0 c.ahead.new.self (image_in (g.N.Nv.words next.idle)) c.soundness.ensures.kept c.tree.ensures.within has.1 image))
+    let has = arrives-at p d c.args.contexts K t c.in-Some.ctx c.ahead.new.self Finished c.order.ensures.passes (c.standing_laws.ensures.context p) stands early some (sym c.take.ensures.taken ∙ c.in-Some.is) c.ahead.ensures.moved c.in-Finished.ensures.arrived c.ahead.ensures.context in
+    subst (λ contexts. KernelStands p (image_in (g.N.Nv.words next.idle)) contexts (one p K Step)) (sym (contexts ∙ c.take.ensures.left))
+    (stands-finished p d (slice_set c.args.contexts t None) K t has.0 c.ahead.new.self (image_in (g.N.Nv.words next.idle)) c.soundness.ensures.kept c.tree.ensures.within has.1 image))
 
 pub returns-in-Watchdog-clause-happened : goal.returns-in-Watchdog-clause-happened
 returns-in-Watchdog-clause-happened g c =
@@ -65,9 +65,9 @@ returns-in-Watchdog-clause-happened g c =
     (λ next. (K : State) → KernelStands p d c.args.contexts K → K.events < 1000000 → chosen K ≡ Some t → KernelStands p (image_in (g.N.Nv.words next.idle)) next.contexts (one p K Step))
     c.stop-in-Watchdog.ensures.stopped c.stop-in-Watchdog.ensures.contexts
     (λ next image contexts K stands early some.
-        let has = arrives-at p d c.args.contexts K t c.in-Some.ctx c.ahead.new.self Watchdog c.order.ensures.passes (c.standing_laws.ensures.context p) stands early some (sym c.take.ensures.taken ∙ c.in-Some.is) c.ahead.ensures.moved c.in-Watchdog.ensures.arrived c.ahead.ensures.context in
-        subst (λ contexts. KernelStands p (image_in (g.N.Nv.words next.idle)) contexts (one p K Step)) (sym (contexts ∙ c.take.ensures.left))
-        (stands-watchdog p d (slice_set c.args.contexts t None) K t has.0 c.ahead.new.self (image_in (g.N.Nv.words next.idle)) c.soundness.ensures.kept c.tree.ensures.within has.1 image))
+    let has = arrives-at p d c.args.contexts K t c.in-Some.ctx c.ahead.new.self Watchdog c.order.ensures.passes (c.standing_laws.ensures.context p) stands early some (sym c.take.ensures.taken ∙ c.in-Some.is) c.ahead.ensures.moved c.in-Watchdog.ensures.arrived c.ahead.ensures.context in
+    subst (λ contexts. KernelStands p (image_in (g.N.Nv.words next.idle)) contexts (one p K Step)) (sym (contexts ∙ c.take.ensures.left))
+    (stands-watchdog p d (slice_set c.args.contexts t None) K t has.0 c.ahead.new.self (image_in (g.N.Nv.words next.idle)) c.soundness.ensures.kept c.tree.ensures.within has.1 image))
 
 pub returns-in-Action-clause-happened : goal.returns-in-Action-clause-happened
 returns-in-Action-clause-happened g c =
@@ -79,8 +79,8 @@ returns-in-Action-clause-happened g c =
     (λ next. (K : State) → KernelStands p d c.args.contexts K → K.events < 1000000 → chosen K ≡ Some t → KernelStands p (image_in (g.N.Nv.words next.idle)) next.contexts (one p K Step))
     c.act.ensures.happened
     (λ next happened K stands early some.
-        let has = arrives-at p d c.args.contexts K t c.in-Some.ctx c.ahead.new.self (Action c.in-Action.number) c.order.ensures.passes (c.standing_laws.ensures.context p) stands early some (sym c.take.ensures.taken ∙ c.in-Some.is) c.ahead.ensures.moved c.in-Action.ensures.arrived c.ahead.ensures.context in
-        happened K has.0 (subst (λ contexts. Arrives p d contexts K t has.0 c.ahead.new.self (Action c.in-Action.number)) (sym c.take.ensures.left) has.1))
+    let has = arrives-at p d c.args.contexts K t c.in-Some.ctx c.ahead.new.self (Action c.in-Action.number) c.order.ensures.passes (c.standing_laws.ensures.context p) stands early some (sym c.take.ensures.taken ∙ c.in-Some.is) c.ahead.ensures.moved c.in-Action.ensures.arrived c.ahead.ensures.context in
+    happened K has.0 (subst (λ contexts. Arrives p d contexts K t has.0 c.ahead.new.self (Action c.in-Action.number)) (sym c.take.ensures.left) has.1))
 
 pub returns-in-Finished-clause-steps : goal.returns-in-Finished-clause-steps
 returns-in-Finished-clause-steps g c =

@@ -27,9 +27,9 @@ returns-in-Some-clause-happened g c =
     (λ next. (K : State) → KernelStands p (image_in (g.N.Nv.words c.args.kernel.idle)) c.args.kernel.contexts K → K.events < 1000000 → KernelStands p (image_in (g.N.Nv.words next.idle)) next.contexts (one p K c.args.event))
     c.run.ensures.happened
     (λ next happened K before early.
-        let stands = subst (λ nv. KernelStands p (image_in (g.N.Nv.words nv)) c.args.kernel.contexts K) (sym c.begin-tx.ensures.same) before in
-        let some = sym (c.chosen.ensures.chosen p K stands.image.sound (rows_agree p (image_in (g.N.Nv.words c.begin-tx.result)).rows K.rows stands.image.rows)) ∙ c.in-Some.is in
-        subst (λ event. KernelStands p (image_in (g.N.Nv.words next.idle)) next.contexts (one p K event)) (sym c.requires.step) (happened K stands early some))
+    let stands = subst (λ nv. KernelStands p (image_in (g.N.Nv.words nv)) c.args.kernel.contexts K) (sym c.begin-tx.ensures.same) before in
+    let some = sym (c.chosen.ensures.chosen p K stands.image.sound (rows_agree p (image_in (g.N.Nv.words c.begin-tx.result)).rows K.rows stands.image.rows)) ∙ c.in-Some.is in
+    subst (λ event. KernelStands p (image_in (g.N.Nv.words next.idle)) next.contexts (one p K event)) (sym c.requires.step) (happened K stands early some))
 
 pub returns-in-None-clause-happened : goal.returns-in-None-clause-happened
 returns-in-None-clause-happened g c =
@@ -41,9 +41,9 @@ returns-in-None-clause-happened g c =
     (λ next. (K : State) → KernelStands p (image_in (g.N.Nv.words c.args.kernel.idle)) c.args.kernel.contexts K → K.events < 1000000 → KernelStands p (image_in (g.N.Nv.words next.idle)) next.contexts (one p K c.args.event))
     c.pass.ensures.counted c.pass.ensures.contexts
     (λ next image contexts K before early.
-        let stands = subst (λ nv. KernelStands p (image_in (g.N.Nv.words nv)) c.args.kernel.contexts K) (sym c.begin-tx.ensures.same) before in
-        let none = sym (c.chosen.ensures.chosen p K stands.image.sound (rows_agree p d.rows K.rows stands.image.rows)) ∙ c.in-None.is in
-        let sound = c.soundness.ensures.kept p K Step c.tree.ensures.within stands.image.sound early in
-        subst (λ contexts. KernelStands p (image_in (g.N.Nv.words next.idle)) contexts (one p K c.args.event)) (sym contexts)
-        (subst (λ event. KernelStands p (image_in (g.N.Nv.words next.idle)) c.args.kernel.contexts (one p K event)) (sym c.requires.step)
-        (stands-nobody p d (image_in (g.N.Nv.words next.idle)) c.args.kernel.contexts K sound stands none image)))
+    let stands = subst (λ nv. KernelStands p (image_in (g.N.Nv.words nv)) c.args.kernel.contexts K) (sym c.begin-tx.ensures.same) before in
+    let none = sym (c.chosen.ensures.chosen p K stands.image.sound (rows_agree p d.rows K.rows stands.image.rows)) ∙ c.in-None.is in
+    let sound = c.soundness.ensures.kept p K Step c.tree.ensures.within stands.image.sound early in
+    subst (λ contexts. KernelStands p (image_in (g.N.Nv.words next.idle)) contexts (one p K c.args.event)) (sym contexts)
+    (subst (λ event. KernelStands p (image_in (g.N.Nv.words next.idle)) c.args.kernel.contexts (one p K event)) (sym c.requires.step)
+    (stands-nobody p d (image_in (g.N.Nv.words next.idle)) c.args.kernel.contexts K sound stands none image)))
