@@ -15,7 +15,7 @@ pub ruleset served_transaction_laws = (tstmts_served, tstmt_served_at)
 -- the statements of a served body, and the one at a place
 pub ruleset served_body_laws = (stmts_served, stmt_served_at)
 
--- what stands at a place of a list that passes a test, as an item of a print
+-- what stands at a place of a list that passes a test, as an expression of a `give`
 pub ruleset place_laws = (passes_at)
 
 -- what a served program declares

@@ -1,5 +1,5 @@
 -- A served body has no persistent loop.
-use Rattle.std.proofs.Common.{◌≡◌, ℕ, true, false, ◌&&◌, List, [], ◌∷◌, ◌++◌, length, map, filter, Some, None, is_some, refl, sym, ap, subst, ◌∙◌}
+use Rattle.std.proofs.Common.{◌≡◌, ℕ, true, false, List, [], ◌∷◌, ◌++◌, length, map, filter, Some, None, is_some, refl, sym, ap, subst, ◌∙◌}
 use Rattle.std.specs.Prelude.{IsTrue}
 use Rattle.std.specs.List.{AllByRecursion, list_all, flat_map}
 use Rattle.std.proofs.lemmas.Bool.{and_parts, cond-false, false≢true}
@@ -10,7 +10,7 @@ use Rattle.thread_tree.specs.Program.{Program, Body}
 use Rattle.thread_tree.specs.LocalState.{Thing, loop_block}
 use Rattle.thread_tree.specs.LocalState.Thing.{Do, End, Test}
 use Rattle.thread_tree.specs.Actions.{Spot, SpotsOf, SpotsIn, spots_in, spots_of_layer, spots_in_turn, spots_in_layer, declared_by, is_loop, spots, loops}
-use Rattle.served_program.specs.Served.{has_no_field, is_served_layer, is_served_stmt, is_served_block}
+use Rattle.served_program.specs.Served.{is_served_layer, is_served_stmt, is_served_block}
 use Rattle.served_program.proofs.ServedLaws.{is_served_stmt_out, is_served_block_out}
 use Rattle.served_program.proofs.Induction.{each_block}
 
@@ -49,16 +49,15 @@ module _ (S B : Type 0) (f : S → Stmt) (g : B → Block) (of_f : (s : S) → H
   parts_none (stmt.Set at e) t scope rest is h = tt
   parts_none (stmt.Apply to callee arguments) t scope rest is h = tt
   parts_none (stmt.If e then_block None) t scope rest is h =
-      let tested = and_parts (has_no_field e && is_served_block (g then_block)) true h in
       both_all (λ (spot : Spot). is_loop spot ≡ false) (spots_in (g then_block) scope (End (length scope) ∷ rest)) []
-      (of_g then_block (and_parts (has_no_field e) (is_served_block (g then_block)) tested.0).1 scope (End (length scope) ∷ rest)) tt
+      (of_g then_block (and_parts (is_served_block (g then_block)) true h).0 scope (End (length scope) ∷ rest)) tt
   parts_none (stmt.If e then_block (Some else_block)) t scope rest is h =
-      let tested = and_parts (has_no_field e && is_served_block (g then_block)) (is_served_block (g else_block)) h in
+      let tested = and_parts (is_served_block (g then_block)) (is_served_block (g else_block)) h in
       both_all (λ (spot : Spot). is_loop spot ≡ false) (spots_in (g then_block) scope (End (length scope) ∷ rest)) (spots_in (g else_block) scope (End (length scope) ∷ rest))
-      (of_g then_block (and_parts (has_no_field e) (is_served_block (g then_block)) tested.0).1 scope (End (length scope) ∷ rest))
+      (of_g then_block tested.0 scope (End (length scope) ∷ rest))
       (of_g else_block tested.1 scope (End (length scope) ∷ rest))
   parts_none (stmt.While e body) t scope rest is h =
-      of_g body (and_parts (has_no_field e) (is_served_block (g body)) h).1 scope (End (length scope) ∷ Test e (g body) ∷ rest)
+      of_g body h scope (End (length scope) ∷ Test e (g body) ∷ rest)
   parts_none (stmt.Ploop place body) t scope rest is h = absurd (false≢true h)
   parts_none (stmt.Break place) t scope rest is h = tt
   parts_none (stmt.Return place value) t scope rest is h = tt

@@ -1,5 +1,5 @@
 -- What is still to do in a served program is served, after each move and after each action.
-use Rattle.std.proofs.Common.{ℕ, ◌&&◌, ◌==◌, List, [], ◌∷◌, length, map, take, find, Option, Some, None, MatchOption, sym, ◌∙◌}
+use Rattle.std.proofs.Common.{ℕ, ◌==◌, List, [], ◌∷◌, length, map, take, find, Option, Some, None, MatchOption, sym, ◌∙◌}
 use Rattle.std.specs.Prelude.{IsTrue, ⊤}
 use Rattle.std.specs.List.{AllByRecursion, list_all}
 use Rattle.std.proofs.lemmas.Bool.{and_parts, cond_both}
@@ -12,7 +12,7 @@ use Rattle.thread_tree.specs.Program.{Program, Function, function_of}
 use Rattle.thread_tree.specs.Value.{value_of, values_in}
 use Rattle.thread_tree.specs.LocalState.{Thing, Frame, LocalState, things, given_to, going_on, entered, returned, chosen_by, tested, branched, broken, frame_of, moved_by, moved, move, after_first, bind}
 use Rattle.thread_tree.specs.LocalState.Thing.{Do, End, Test, Turn}
-use Rattle.served_program.specs.Served.{has_no_field, if_some, is_served_layer, is_served_stmt, is_served_block}
+use Rattle.served_program.specs.Served.{if_some, is_served_layer, is_served_stmt, is_served_block}
 use Rattle.served_program.proofs.ServedLaws.{is_served_stmt_out, is_served_block_out}
 use Rattle.served_program.proofs.LoopLaws.{both_all}
 use Rattle.served_program.proofs.DeclarationLaws.{IsServedFunction}
@@ -121,9 +121,9 @@ module _ (p : Program) (functions : AllByRecursion IsServedFunction p.functions)
   moved_by_served rest (stmt.Apply to callee arguments) h g =
       called_served f frames below rest (function_of p callee.name) (values_in f.locals arguments) _ g (found_served callee.name p.functions functions)
   moved_by_served rest (stmt.If e block other) h g =
-      let tests = and_parts (has_no_field e && is_served_block block) (if_some is_served_block other) h in
-      branched_served f frames below e block other rest (and_parts (has_no_field e) (is_served_block block) tests.0).1 tests.1 g
-  moved_by_served rest (stmt.While e block) h g = tested_served f frames below e block rest (and_parts (has_no_field e) (is_served_block block) h).1 g
+      let tests = and_parts (is_served_block block) (if_some is_served_block other) h in
+      branched_served f frames below e block other rest tests.0 tests.1 g
+  moved_by_served rest (stmt.While e block) h g = tested_served f frames below e block rest h g
   moved_by_served rest (stmt.Ploop place block) h g = tt
   moved_by_served rest (stmt.Break place) h g = (broken_served f.locals rest g, below)
   moved_by_served rest (stmt.Return place value) h g = returned_served f frames (elim value [ None ↦ 0 | Some e ↦ value_of f.locals e ]) below

@@ -7,8 +7,6 @@ use Rattle.thread_tree.specs.declared.expr.FieldOf.{FieldOf}
 use Rattle.thread_tree.specs.declared.expr.FieldOf.TheVariants as field
 use Rattle.thread_tree.specs.declared.action.Call.{Call}
 use Rattle.thread_tree.specs.declared.action.Call.TheVariants as call
-use Rattle.thread_tree.specs.declared.action.Item.{Item}
-use Rattle.thread_tree.specs.declared.action.Item.TheVariants as item
 use Rattle.thread_tree.specs.declared.block.Block.{Block, fold-Block}
 use Rattle.thread_tree.specs.declared.block.Stmt.{Stmt, fold-Stmt}
 use Rattle.thread_tree.specs.declared.block.Stmt.TheOpen.{Stmt-F, Block-F}
@@ -35,18 +33,10 @@ is_served_expr (expr.Field f) = is_served_field f
 is_served_expr (expr.Prefix' op p e) = is_served_expr e
 is_served_expr (expr.Binary' op p x q y) = is_served_expr x && is_served_expr y
 
--- an expression outside of `atomic`, which has no field
-abbrev pub has_no_field : Expr → Bool
-has_no_field (expr.Num value) = true
-has_no_field (expr.Local at) = true
-has_no_field (expr.Field f) = false
-has_no_field (expr.Prefix' op p e) = has_no_field e
-has_no_field (expr.Binary' op p x q y) = has_no_field x && has_no_field y
-
--- what may be left out, and passes a test where it isn't
-abbrev pub if_some : {X : Type 0} → (X → Bool) → Option X → Bool
-if_some test None = true
-if_some test (Some x) = test x
+-- a block that may be left out, and passes the test where it isn't
+abbrev pub if_some : {B : Type 0} → (B → Bool) → Option B → Bool
+if_some block None = true
+if_some block (Some b) = block b
 
 -- a statement of an `atomic` block, by its layer, where `block` is the test of the blocks in it: no `new` and no `free`
 abbrev pub is_served_tlayer : {S B : Type 0} → (B → Bool) → TStmt-F S B → Bool
@@ -74,14 +64,9 @@ is_served_tstmt = fold-TStmt Bool Bool (is_served_tlayer (λ served. served)) is
 unfoldable pub is_served_tblock : TBlock → Bool
 is_served_tblock = fold-TBlock Bool Bool (is_served_tlayer (λ served. served)) is_served_tblock_layer
 
--- an item of a print
-abbrev pub is_served_item : Item → Bool
-is_served_item (item.Text place text) = true
-is_served_item (item.Value place e) = has_no_field e
-
 -- a call: a print, and no other
 abbrev pub is_served_call : Call → Bool
-is_served_call (call.Print items) = list_all is_served_item items
+is_served_call (call.Print items) = true
 is_served_call (call.Spawn template arguments) = false
 is_served_call (call.Delete whom) = false
 is_served_call (call.Delay ticks) = false
@@ -97,14 +82,14 @@ is_served_call (call.Waiting queue) = false
 
 -- a statement, by its layer, where `block` is the test of the blocks in it: no persistent loop
 abbrev pub is_served_layer : {S B : Type 0} → (B → Bool) → Stmt-F S B → Bool
-is_served_layer block (stmt.Let at e) = has_no_field e
-is_served_layer block (stmt.Set at e) = has_no_field e
-is_served_layer block (stmt.Apply to callee arguments) = list_all has_no_field arguments
-is_served_layer block (stmt.If e then_block else_block) = has_no_field e && block then_block && if_some block else_block
-is_served_layer block (stmt.While e body) = has_no_field e && block body
+is_served_layer block (stmt.Let at e) = true
+is_served_layer block (stmt.Set at e) = true
+is_served_layer block (stmt.Apply to callee arguments) = true
+is_served_layer block (stmt.If e then_block else_block) = block then_block && if_some block else_block
+is_served_layer block (stmt.While e body) = block body
 is_served_layer block (stmt.Ploop place body) = false
 is_served_layer block (stmt.Break place) = true
-is_served_layer block (stmt.Return place value) = if_some has_no_field value
+is_served_layer block (stmt.Return place value) = true
 is_served_layer block (stmt.Atomic place to body) = is_served_tblock body
 is_served_layer block (stmt.Call place c to) = is_served_call c
 

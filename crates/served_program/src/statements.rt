@@ -2,41 +2,17 @@
 ghost use Rattle.std.specs.Prelude.{◌≡◌};
 ghost use Rattle.std.specs.List.{list_all};
 ghost use Rattle.thread_tree.specs.declared.block.Stmt.{out-Stmt};
-ghost use Rattle.served_program.specs.Served.{is_served_item, is_served_call, is_served_layer, is_served_stmt, is_served_block};
+ghost use Rattle.served_program.specs.Served.{is_served_call, is_served_layer, is_served_stmt, is_served_block};
 
-use crate::expressions::{has_no_field, have_no_field, may_have_no_field};
 use crate::transactions::is_served_tblock;
-use thread_tree::{Block, Call, Item, List, Stmt};
-
-/// Whether an item of a print is served.
-fn is_served_item(item: &Item) -> bool
-    ensures served { result ≡ is_served_item item.now }
-{
-    match item {
-        Item::Text(_, _) => true,
-        Item::Value(_, expr) => has_no_field(expr),
-    }
-}
-
-/// Whether the items of a print are served.
-#[tactic(auto, using(crate::proofs::Steps::drop_at))]
-fn are_served_items(items: &List<Item>) -> bool
-    ensures served { result ≡ list_all is_served_item items.now }
-{
-    for i in 0..items.len() {
-        if !is_served_item(items.get(i)) {
-            return false;
-        }
-    }
-    true
-}
+use thread_tree::{Block, Call, List, Stmt};
 
 /// Whether a call is served.
 fn is_served_call(call: &Call) -> bool
     ensures served { result ≡ is_served_call call.now }
 {
     match call {
-        Call::Print(items) => are_served_items(items),
+        Call::Print(_) => true,
         Call::Spawn(..)
         | Call::Delete(..)
         | Call::Delay(..)
@@ -58,13 +34,10 @@ fn is_served_stmt(stmt: &Stmt) -> bool
     ensures served { result ≡ is_served_layer is_served_block (out-Stmt stmt.now) }
 {
     match stmt {
-        Stmt::Let(_, expr) => has_no_field(expr),
-        Stmt::Set(_, expr) => has_no_field(expr),
-        Stmt::Apply(_, _, arguments) => have_no_field(arguments),
-        Stmt::If(expr, then_block, else_block) => {
-            if !has_no_field(expr) {
-                return false;
-            }
+        Stmt::Let(_, _) => true,
+        Stmt::Set(_, _) => true,
+        Stmt::Apply(_, _, _) => true,
+        Stmt::If(_, then_block, else_block) => {
             if !is_served_block(then_block) {
                 return false;
             }
@@ -73,10 +46,10 @@ fn is_served_stmt(stmt: &Stmt) -> bool
                 Some(block) => is_served_block(block),
             }
         }
-        Stmt::While(expr, body) => has_no_field(expr) && is_served_block(body),
+        Stmt::While(_, body) => is_served_block(body),
         Stmt::Ploop(_, _) => false,
         Stmt::Break(_) => true,
-        Stmt::Return(_, value) => may_have_no_field(value),
+        Stmt::Return(_, _) => true,
         Stmt::Atomic(_, _, body) => is_served_tblock(body),
         Stmt::Call(_, call, _) => is_served_call(call),
     }
