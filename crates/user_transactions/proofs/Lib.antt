@@ -1,7 +1,9 @@
 pub mod GiveLaws
 pub mod KeepLaws
+pub mod LeaveLaws
 pub mod LocalLaws
 pub mod MoveLaws
 pub mod ReadLaws
 pub mod RoomLaws
+pub mod RunLaws
 pub mod StoreLaws

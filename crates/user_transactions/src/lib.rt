@@ -2,6 +2,7 @@
 #![tactic(auto)]
 
 mod acts;
+mod closing;
 mod ends;
 mod expressions;
 mod fate;
@@ -9,6 +10,7 @@ mod leaving;
 mod level;
 mod moves;
 mod references;
+mod running;
 mod step;
 mod steps;
 mod tx_end;
