@@ -1,5 +1,6 @@
 -- A block from its first statement to its end.
 use Rattle.std.proofs.Common.{◌≡◌, ℕ, ◌+◌, ◌-◌, ◌*◌, ◌≤◌, List, [], ◌∷◌, ◌++◌, length, map, drop, refl, ap, sym, subst, ◌∙◌, arith}
+use Rattle.std.proofs.Math.ListN.{drop_of_length-le}
 use Rattle.std.specs.Prelude.{slice_get, option_copied, Option, Some, None}
 use Rattle.nv_memory.specs.declared.nv.Nv.{Ghosts}
 use Rattle.kernel_image.specs.Decoded.{Decoded, image_in}
@@ -56,6 +57,16 @@ Shrinks-more level less more locals fate.Went le shrinks = omega (arith, shrinks
 Shrinks-more level less more locals fate.Broke le shrinks = omega (arith, shrinks)
 Shrinks-more level less more locals (fate.Ended end) le shrinks = tt
 
+-- a block in a statement leaves none of its locals
+pub inner-went : (level : Level) (test : Option Expr) (keep locals : ℕ) → IsLevelOf test level → Shrinks level keep locals fate.Went → locals ≤ keep + 0
+inner-went Body None keep locals is shrinks = absurd is
+inner-went Body (Some e) keep locals is shrinks = absurd is
+inner-went Inner test keep locals is shrinks = shrinks
+inner-went (Turn e) test keep locals is shrinks = shrinks
+
+pub inner-broke : (level : Level) (test : Option Expr) (keep locals : ℕ) → IsLevelOf test level → Shrinks level keep locals fate.Broke → locals ≤ keep + 0
+inner-broke level test keep locals is shrinks = inner-went level test keep locals is shrinks
+
 -- things that come to the same are done alike
 pub Ran-from : (p : Program) (d : Decoded) (w : Work) (before : List Thing → List Thing) (e : Decoded) (v : Work) (between : List Thing → List Thing) (new : Decoded) (u : Work) (f : Fate) →
     ((given : ℕ) (rest : List Thing) → end_from p given d w (before rest) ≡ end_from p given e v (between rest)) → Ran p e v between new u f → Ran p d w before new u f
@@ -97,10 +108,10 @@ module _ {N : Type 0} (g : Ghosts N) (p : Program) where
     pub kept : keep ≤ length w.locals.items
 
   -- none was done yet
-  pub IsRunning-start : (level : Level) (block : TBlock) (old : N) (w : Work) → AreSoundObjects p (objects_of p (image_in (g.words old))) → w.operations ≤ 64 → length w.locals.items + (need_of_tblock block).locals ≤ 48 →
-      IsRunning level block old w (length w.locals.items) 0 old w
-  IsRunning-start level block old w sound few room = record {
-    same = λ given rest. refl;
+  pub IsRunning-start : (level : Level) (block : TBlock) (old : N) (w : Work) → (keep : ℕ) → keep ≡ length w.locals.items → AreSoundObjects p (objects_of p (image_in (g.words old))) → w.operations ≤ 64 →
+      length w.locals.items + (need_of_tblock block).locals ≤ 48 → IsRunning level block old w keep 0 old w
+  IsRunning-start level block old w keep is sound few room = record {
+    same = λ given rest. ap (λ (k : ℕ). end_from p given (image_in (g.words old)) w (whole level block k rest)) (sym is);
     keeps = keeps_same g p old (w.operations - w.operations) sound;
     few = few;
     more = omega arith;
@@ -147,3 +158,33 @@ module _ {N : Type 0} (g : Ghosts N) (p : Program) where
     Ran-broke s new u x f is broke leaves =
         Ran-from p (image_in (g.words old)) w (whole level block (length w.locals.items)) (image_in (g.words mid)) v (λ rest. Do s ∷ (from_place (at + 1) block ++ behind_level level block keep rest)) new x f
         (at-statement s is) (Ran-left p (image_in (g.words mid)) v s new u x level block keep (at + 1) f broke leaves)
+
+    -- there is room for what the statement declares
+    pub HasRoom-at : (s : TStmt) → slice_get (out-TBlock block).stmts at ≡ Some s → HasRoom (length v.locals.items) (s ∷ drop (at + 1) (out-TBlock block).stmts)
+    HasRoom-at s is = subst (λ (xs : List TStmt). HasRoom (length v.locals.items) xs) (rest_from (out-TBlock block).stmts at s is) running.room
+
+    -- behind the last statement
+    at-end : length (out-TBlock block).stmts ≤ at → (given : ℕ) (rest : List Thing) →
+        end_from p given (image_in (g.words old)) w (whole level block (length w.locals.items) rest) ≡ end_from p given (image_in (g.words mid)) v (behind_level level block keep rest)
+    at-end past given rest = running.same given rest ∙ ap (λ (xs : List TStmt). end_from p given (image_in (g.words mid)) v (map Do xs ++ behind_level level block keep rest)) (drop_of_length-le (out-TBlock block).stmts past)
+
+    -- the block of a loop begins anew
+    pub IsRunning-again : (u : Work) (next : ℕ) → length (out-TBlock block).stmts ≤ at → Closed p (image_in (g.words mid)) v (behind_level level block keep) level block u None →
+        next ≡ length u.locals.items → length u.locals.items ≤ keep → v.operations ≤ u.operations → u.operations ≤ 64 → u.moves ≤ v.moves → length w.locals.items + (need_of_tblock block).locals ≤ 48 →
+        IsRunning level block old w next 0 mid u
+    IsRunning-again u next past closed is few_locals more few moves room = record {
+      same = λ given rest. at-end past given rest ∙ closed given rest ∙ ap (λ (k : ℕ). end_from p given (image_in (g.words mid)) u (whole level block k rest)) (sym is);
+      keeps = keeps-on mid u (keeps_same g p mid (u.operations - v.operations) running.keeps.sound) more;
+      few = few;
+      more = omega (arith, running.more);
+      moves = omega (arith, running.moves);
+      room = HasRoom-block (length u.locals.items) block (omega (arith, running.kept));
+      kept = omega (arith, running.kept);
+    }
+
+    -- the block was left at its end
+    pub Ran-closed : (u : Work) (f : Fate) → length (out-TBlock block).stmts ≤ at → Closed p (image_in (g.words mid)) v (behind_level level block keep) level block u (Some f) →
+        Ran p (image_in (g.words old)) w (whole level block (length w.locals.items)) (image_in (g.words mid)) u f
+    Ran-closed u fate.Went past closed = λ given rest. at-end past given rest ∙ closed given rest
+    Ran-closed u fate.Broke past closed = absurd closed
+    Ran-closed u (fate.Ended end) past closed = λ given rest. subst (λ (b : BlockEnd). IsEnd p end (image_in (g.words mid)) b) (sym (at-end past given rest)) (closed given rest)

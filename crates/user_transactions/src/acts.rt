@@ -40,6 +40,7 @@ pub(crate) fn act<'a, N: Nv>(
     ensures enters { IfOk result (λ step. Enters (out-TStmt statement.now) step) }
     ensures grown { length work.new.locals.items ≤ length work.old.locals.items + declares (out-TStmt statement.now) }
     ensures spent { IfOk result (λ step. IsSpent work.old.moves work.new.moves step) }
+    ensures moves { work.new.moves ≤ work.old.moves }
     ensures few { work.new.operations ≤ 64 }
     ensures more { work.old.operations ≤ work.new.operations }
     ensures keeps { OnOk result (Keeps N.Nv (program_of program.now) tx.old tx.new (work.new.operations - work.old.operations)) }
