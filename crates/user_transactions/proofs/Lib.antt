@@ -3,6 +3,7 @@ pub mod KeepLaws
 pub mod LeaveLaws
 pub mod LocalLaws
 pub mod MoveLaws
+pub mod PerformLaws
 pub mod ReadLaws
 pub mod RoomLaws
 pub mod RunLaws

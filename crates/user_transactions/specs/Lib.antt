@@ -1,4 +1,5 @@
 pub mod Fates
+pub mod Performed
 pub mod Runs
 pub mod Seen
 pub mod Steps

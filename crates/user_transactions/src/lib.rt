@@ -2,6 +2,7 @@
 #![tactic(auto)]
 
 mod acts;
+mod atomic;
 mod closing;
 mod ends;
 mod expressions;
@@ -9,6 +10,7 @@ mod fate;
 mod leaving;
 mod level;
 mod moves;
+mod performing;
 mod references;
 mod running;
 mod step;
@@ -17,4 +19,5 @@ mod tx_end;
 mod values;
 mod work;
 
+pub use performing::perform;
 pub use tx_end::TxEnd;
