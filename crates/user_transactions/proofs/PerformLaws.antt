@@ -2,7 +2,7 @@
 use Rattle.std.proofs.Common.{◌≡◌, ℕ, zero, suc, ◌+◌, ◌-◌, ◌*◌, ◌<◌, ◌≤◌, List, [], ◌∷◌, ◌++◌, length, take, refl, ap, sym, subst, ◌∙◌, arith}
 use Rattle.std.proofs.lemmas.List.{append-nil}
 use Rattle.std.proofs.lemmas.Option.{none-some}
-use Rattle.std.specs.Prelude.{slice_get, replicate, Option, Some, None}
+use Rattle.std.specs.Prelude.{slice_get, replicate, IfSome, Option, Some, None}
 use Rattle.nv_memory.specs.declared.nv.Nv.{Ghosts}
 use Rattle.undo_journal.proofs.Lending.{IsWithin-more}
 use Rattle.kernel_image.specs.Decoded.{Decoded}
@@ -69,9 +69,14 @@ abbrev from-some : Stmt → Option Stmt → Stmt
 from-some s None = s
 from-some s (Some t) = t
 
+abbrev body-from : TBlock → Option TBlock → TBlock
+body-from b None = b
+body-from b (Some found) = found
+
 same-action : (p : Program) (number : ℕ) (s t : Stmt) → slice_get (actions p) number ≡ Some s → slice_get (actions p) number ≡ Some t → s ≡ t
 same-action p number s t at_s at_t = ap (from-some s) (sym at_s ∙ at_t)
 
+-- the action that was found is the one at hand
 module _ (p : Program) (number : ℕ) (s t : Stmt) (place : Place) (to : List At) (body : TBlock) (at_s : slice_get (actions p) number ≡ Some s) (at_t : slice_get (actions p) number ≡ Some t) (is : out-Stmt s ≡ stmt.Atomic place to body) where
   layer-is : out-Stmt t ≡ stmt.Atomic place to body
   layer-is = ap (λ (x : Stmt). out-Stmt x) (sym (same-action p number s t at_s at_t)) ∙ is
@@ -79,6 +84,9 @@ module _ (p : Program) (number : ℕ) (s t : Stmt) (place : Place) (to : List At
   -- the block of the action
   pub body-is : body_in (out-Stmt t) ≡ Some body
   body-is = ap (λ (layer : Stmt-F Stmt Block). body_in layer) layer-is
+
+  pub body-same : (found : TBlock) → Some found ≡ body_in (out-Stmt t) → found ≡ body
+  body-same found there = ap (body-from found) (there ∙ body-is)
 
   -- how many values it has to give
   pub given-is : given_in (out-Stmt t) ≡ length to - 1
@@ -90,3 +98,7 @@ unfolding weight_of need_of
 room-inside callee s place to body locals is room =
     let same = ap (λ (w : Weight). w.need.locals) (fold_out-Stmt Weight Need (weight_of_layer callee) need_of_layer s ∙ ap (λ (layer : Stmt-F Stmt Block). weight_of_layer callee (map-Stmt Stmt Block Weight Need (weight_of callee) (need_of callee) layer)) is) in
     omega (arith, room, same)
+
+-- there is room for the locals of the statement that comes next
+pub room-next : (callee : ℕ → Need) (next : Option Stmt) (s : Stmt) (locals : ℕ) → next ≡ Some s → IfSome next (λ s. locals + (weight_of callee s).need.locals ≤ 48) → locals + (weight_of callee s).need.locals ≤ 48
+room-next callee next s locals is room = subst (λ (o : Option Stmt). IfSome o (λ s. locals + (weight_of callee s).need.locals ≤ 48)) is room
