@@ -12,7 +12,7 @@ use Rattle.thread_tree.specs.declared.local.Local.{Local}
 use Rattle.thread_tree.specs.Program.{Program}
 
 -- the k-th element is the first one from there on
-rest_from : {X : Type 0} (xs : List X) (k : ℕ) (x : X) → slice_get xs k ≡ Some x → drop k xs ≡ x ∷ drop (k + 1) xs
+pub rest_from : {X : Type 0} (xs : List X) (k : ℕ) (x : X) → slice_get xs k ≡ Some x → drop k xs ≡ x ∷ drop (k + 1) xs
 rest_from xs k x is =
     let low : k < length xs = slice_get_within xs k x is in
     let next : suc k ≡ k + 1 = omega arith in

@@ -1,8 +1,8 @@
 -- A block makes its next move.
 use Rattle.std.proofs.Common.{◌≡◌, ℕ, zero, suc, ◌+◌, ◌-◌, ◌<◌, refl, ap, sym, subst, ◌∙◌, arith, true≢false}
-use Rattle.std.specs.Prelude.{true, false, List, ◌∷◌, ◌++◌, length, take, is_some, option_copied, Option, Some, None, Result, Ok, Err}
+use Rattle.std.specs.Prelude.{Bool, true, false, List, ◌∷◌, ◌++◌, length, take, is_some, option_copied, Option, Some, None, Result, Ok, Err}
 use Rattle.kernel_model.specs.Transactions.{Work, BlockEnd, block_by, move, goes_on, stops, ending, too_many_moves, Thing, moved_by, things, broken_off}
-use Rattle.kernel_model.specs.Transactions.Thing.{Do, End}
+use Rattle.kernel_model.specs.Transactions.Thing.{Do, End, Test}
 use Rattle.kernel_model.specs.Transactions.BlockEnd.{Fault}
 use Rattle.kernel_image.specs.Decoded.{Decoded}
 use Rattle.thread_tree.specs.declared.transaction.TBlock.{TBlock}
@@ -18,7 +18,9 @@ use Rattle.user_transactions.specs.declared.tx_end.TxEnd.TheVariants as tx_end
 use Rattle.user_transactions.specs.declared.work.Work.{Work as Code}
 use Rattle.user_transactions.specs.Fates.{Acted, EndsBlock}
 use Rattle.user_transactions.specs.Steps.{Stepped, IsEnding, ends, behind}
-use Rattle.user_transactions.specs.Works.{work_of, IsEnd}
+use Rattle.user_transactions.specs.Works.{work_of, end_from, IsEnd}
+use Rattle.user_transactions.specs.Runs.{Tested}
+use Rattle.thread_tree.specs.declared.expr.Expr.{Expr}
 
 module _ (p : Program) (given : ℕ) (w : Work) where
   unrolled : (m n : ℕ) → m ≡ n + 1 → block_by p given m w ≡ goes_on p given (λ next. block_by p given n next) w (move p w)
@@ -115,3 +117,27 @@ closed_end p d w v keep some less locals operations = λ given rest.
 pub closed_full : (p : Program) (d : Decoded) (w v : Code) (keep : ℕ) → w.moves ≡ 0 → EndsBlock p d w keep v (Some (tx_end.Fault 1))
 closed_full p d w v keep none = λ given rest.
     subst (λ (b : BlockEnd). IsEnd p (tx_end.Fault 1) d b) (sym (full p given (work_of p d w (End keep ∷ rest)) w.moves none refl)) refl
+
+-- no move is left for a loop's test
+pub tested_full : (p : Program) (d : Decoded) (w : Code) (e : Expr) (block : TBlock) → w.moves ≡ 0 → (given : ℕ) (rest : List Thing) → IsEnd p (tx_end.Fault 1) d (end_from p given d w (Test e block ∷ rest))
+tested_full p d w e block none given rest =
+    subst (λ (b : BlockEnd). IsEnd p (tx_end.Fault 1) d b) (sym (full p given (work_of p d w (Test e block ∷ rest)) w.moves none refl)) refl
+
+-- the test faults
+pub tested_fault : (p : Program) (d : Decoded) (w v : Code) (e : Expr) (block : TBlock) (fault : ℕ) → 0 < w.moves → Tested p d (record w { moves = w.moves - 1 }) v e block (Err fault) → (given : ℕ) (rest : List Thing) → IsEnd p (tx_end.Fault fault) d (end_from p given d w (Test e block ∷ rest))
+tested_fault p d w v e block fault some tested given rest =
+    subst (λ (b : BlockEnd). IsEnd p (tx_end.Fault fault) d b) (sym (block_fault p given (work_of p d w (Test e block ∷ rest)) w.moves fault some (tested (Test e block ∷ rest) rest))) refl
+
+-- the loop's block is next
+pub tested_true : (p : Program) (d : Decoded) (w v : Code) (e : Expr) (block : TBlock) (b : Bool) → 0 < w.moves → v.moves ≡ w.moves - 1 → Tested p d (record w { moves = w.moves - 1 }) v e block (Ok b) → b ≡ true → (given : ℕ) (rest : List Thing) → end_from p given d w (Test e block ∷ rest) ≡ end_from p given d v (things block ++ End (length v.locals.items) ∷ Test e block ∷ rest)
+tested_true p d w v e block true some less tested is given rest =
+    block_next p given (work_of p d w (Test e block ∷ rest)) w.moves (work_of p d v (things block ++ End (length v.locals.items) ∷ Test e block ∷ rest)) some (tested (Test e block ∷ rest) rest)
+    ∙ ap (λ (m : ℕ). block_by p given m (work_of p d v (things block ++ End (length v.locals.items) ∷ Test e block ∷ rest))) (sym less)
+tested_true p d w v e block false some less tested is given rest = absurd (true≢false (sym is))
+
+-- what follows the loop is next
+pub tested_false : (p : Program) (d : Decoded) (w v : Code) (e : Expr) (block : TBlock) (b : Bool) → 0 < w.moves → v.moves ≡ w.moves - 1 → Tested p d (record w { moves = w.moves - 1 }) v e block (Ok b) → b ≡ false → (given : ℕ) (rest : List Thing) → end_from p given d w (Test e block ∷ rest) ≡ end_from p given d v rest
+tested_false p d w v e block false some less tested is given rest =
+    block_next p given (work_of p d w (Test e block ∷ rest)) w.moves (work_of p d v rest) some (tested (Test e block ∷ rest) rest)
+    ∙ ap (λ (m : ℕ). block_by p given m (work_of p d v rest)) (sym less)
+tested_false p d w v e block true some less tested is given rest = absurd (true≢false is)

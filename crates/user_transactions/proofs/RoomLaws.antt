@@ -1,12 +1,15 @@
 -- How many locals the statements of a block need.
 use Rattle.std.proofs.Common.{◌≡◌, ℕ, ◌+◌, ◌≤◌, List, ◌∷◌, map, refl, ap, ◌∙◌, arith}
-use Rattle.std.specs.Prelude.{Option, Some, None}
+use Rattle.std.proofs.lemmas.Bool.{and_parts}
+use Rattle.std.specs.Prelude.{Option, Some, None, IsTrue, max, ◌&&◌}
+use Rattle.thread_tree.specs.declared.expr.Expr.{Expr}
 use Rattle.thread_tree.specs.declared.transaction.TBlock.{TBlock, out-TBlock, fold_out-TBlock}
 use Rattle.thread_tree.specs.declared.transaction.TStmt.{TStmt, out-TStmt, fold-TStmt, fold_out-TStmt, map-TStmt}
 use Rattle.thread_tree.specs.declared.transaction.TStmt.TheOpen.{TStmt-F}
 use Rattle.thread_tree.specs.declared.transaction.TStmt.TheOpen as tstmt
 use Rattle.thread_tree.specs.Need.{Need, Weight, in_turn, opened, weight_of_tlayer, need_of_tlayer, need_of_tblock}
-use Rattle.user_transactions.specs.Steps.{declares}
+use Rattle.served_program.specs.Served.{is_served_tblock, is_served_expr, if_some}
+use Rattle.user_transactions.specs.Steps.{declares, is_served_statement, blocks_need, need_if_some, IsInside}
 
 -- the weight of a statement
 unfoldable pub weight_of_tstmt : TStmt → Weight
@@ -57,20 +60,44 @@ HasRoom-block locals b room =
     let same = ap (λ (n : Need). n.locals) (need_out b) in
     record { room = omega (arith, room, same) }
 
-pub HasRoom-if : (locals : ℕ) (s : TStmt) (stmts : List TStmt) (e : _) (block : TBlock) (other : Option TBlock) → HasRoom locals (s ∷ stmts) → out-TStmt s ≡ tstmt.If e block other → locals + (need_of_tblock block).locals ≤ 48
-HasRoom-if locals s stmts e block None h is =
-    let same = ap (λ (w : Weight). w.need.locals) (weight_out s ∙ ap (λ (x : TStmt-F TStmt TBlock). weight_of_tlayer (map-TStmt TStmt TBlock Weight Need weight_of_tstmt need_of_tblock x)) is) in
-    omega (arith, h.room, same)
-HasRoom-if locals s stmts e block (Some other) h is =
-    let same = ap (λ (w : Weight). w.need.locals) (weight_out s ∙ ap (λ (x : TStmt-F TStmt TBlock). weight_of_tlayer (map-TStmt TStmt TBlock Weight Need weight_of_tstmt need_of_tblock x)) is) in
-    omega (arith, h.room, same)
+-- a statement needs what it declares and what its blocks need
+layer-inside : (x : TStmt-F TStmt TBlock) → declares x + blocks_need x ≤ (weight_of_tlayer (map-TStmt TStmt TBlock Weight Need weight_of_tstmt need_of_tblock x)).need.locals
+layer-inside (tstmt.Let at e) = omega arith
+layer-inside (tstmt.LetNew at kind) = omega arith
+layer-inside (tstmt.Set at e) = omega arith
+layer-inside (tstmt.SetNew at kind) = omega arith
+layer-inside (tstmt.Store field e) = omega arith
+layer-inside (tstmt.Free e) = omega arith
+layer-inside (tstmt.If e block None) = omega arith
+layer-inside (tstmt.If e block (Some other)) = omega arith
+layer-inside (tstmt.While e block) = omega arith
+layer-inside (tstmt.Break place) = omega arith
+layer-inside (tstmt.Abort place) = omega arith
+layer-inside (tstmt.Give place es) = omega arith
 
-pub HasRoom-else : (locals : ℕ) (s : TStmt) (stmts : List TStmt) (e : _) (block other : TBlock) → HasRoom locals (s ∷ stmts) → out-TStmt s ≡ tstmt.If e block (Some other) → locals + (need_of_tblock other).locals ≤ 48
-HasRoom-else locals s stmts e block other h is =
-    let same = ap (λ (w : Weight). w.need.locals) (weight_out s ∙ ap (λ (x : TStmt-F TStmt TBlock). weight_of_tlayer (map-TStmt TStmt TBlock Weight Need weight_of_tstmt need_of_tblock x)) is) in
-    omega (arith, h.room, same)
+-- the block of a statement has room behind what the statement declares
+pub HasRoom-inside : (locals more : ℕ) (s : TStmt) (stmts : List TStmt) (block : TBlock) → HasRoom locals (s ∷ stmts) → more ≤ locals + declares (out-TStmt s) → IsInside (out-TStmt s) block → more + (need_of_tblock block).locals ≤ 48
+HasRoom-inside locals more s stmts block h le inside =
+    let same = ap (λ (w : Weight). w.need.locals) (weight_out s) in
+    omega (arith, h.room, same, le, inside.small, layer-inside (out-TStmt s))
 
-pub HasRoom-while : (locals : ℕ) (s : TStmt) (stmts : List TStmt) (e : _) (block : TBlock) → HasRoom locals (s ∷ stmts) → out-TStmt s ≡ tstmt.While e block → locals + (need_of_tblock block).locals ≤ 48
-HasRoom-while locals s stmts e block h is =
-    let same = ap (λ (w : Weight). w.need.locals) (weight_out s ∙ ap (λ (x : TStmt-F TStmt TBlock). weight_of_tlayer (map-TStmt TStmt TBlock Weight Need weight_of_tstmt need_of_tblock x)) is) in
-    omega (arith, h.room, same)
+-- the blocks of an `if` and of a `while`
+pub inside_then : (e : Expr) (block : TBlock) (other : Option TBlock) → IsTrue (is_served_statement (tstmt.If e block other)) → IsInside (tstmt.If e block other) block
+inside_then e block other served = record {
+  served = (and_parts (is_served_expr e) (is_served_tblock block) (and_parts (is_served_expr e && is_served_tblock block) (if_some is_served_tblock other) served).0).1;
+  small = omega arith;
+}
+
+pub inside_else : (e : Expr) (block other : TBlock) → IsTrue (is_served_statement (tstmt.If e block (Some other))) → IsInside (tstmt.If e block (Some other)) other
+inside_else e block other served = record {
+  served = (and_parts (is_served_expr e && is_served_tblock block) (is_served_tblock other) served).1;
+  small = omega arith;
+}
+
+pub inside_while : (e : Expr) (block : TBlock) → IsTrue (is_served_statement (tstmt.While e block)) → IsInside (tstmt.While e block) block
+inside_while e block served = record {
+  served = (and_parts (is_served_expr e) (is_served_tblock block) served).1;
+  small = omega arith;
+}
+
+pub ruleset inside_laws = (inside_then, inside_else, inside_while)

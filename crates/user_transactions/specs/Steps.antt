@@ -1,5 +1,5 @@
 -- What a move of a block made of it.
-use Rattle.std.specs.Prelude.{◌≡◌, ℕ, Bool, true, false, List, ◌∷◌, ◌++◌, length, option_copied, Result, Ok, Err, Option, Some, None}
+use Rattle.std.specs.Prelude.{◌≡◌, ℕ, ◌≤◌, IsTrue, max, Bool, true, false, List, ◌∷◌, ◌++◌, length, option_copied, Result, Ok, Err, Option, Some, None}
 use Rattle.kernel_image.specs.Decoded.{Decoded}
 use Rattle.kernel_model.specs.Transactions as model
 use Rattle.kernel_model.specs.Transactions.{Thing, ended_by, moved_by, things, broken_off}
@@ -10,6 +10,8 @@ use Rattle.thread_tree.specs.declared.transaction.TStmt.{TStmt}
 use Rattle.thread_tree.specs.declared.transaction.TStmt.TheOpen.{TStmt-F}
 use Rattle.thread_tree.specs.declared.transaction.TStmt.TheOpen as tstmt
 use Rattle.thread_tree.specs.Program.{Program}
+use Rattle.thread_tree.specs.Need.{need_of_tblock}
+use Rattle.served_program.specs.Served.{is_served_tlayer, is_served_tblock}
 use Rattle.user_transactions.specs.declared.step.Step.{Step}
 use Rattle.user_transactions.specs.declared.step.Step.TheVariants.{Went, Broke, Entered, Ended}
 use Rattle.user_transactions.specs.declared.tx_end.TxEnd.{TxEnd}
@@ -68,3 +70,38 @@ declares (tstmt.Give place es) = 0
 abbrev pub IsEnding : Program → Decoded → Work → TStmt-F TStmt TBlock → Option TxEnd → Type 0
 IsEnding p d w layer None = ends layer ≡ false
 IsEnding p d w layer (Some end) = (ends layer ≡ true) × ((todo : List Thing) → IsEnd p end d (ended_by p (work_of p d w todo) layer))
+
+-- whether a statement is served
+abbrev pub is_served_statement : TStmt-F TStmt TBlock → Bool
+is_served_statement layer = is_served_tlayer is_served_tblock layer
+
+-- how many locals a block needs that may be left out
+abbrev pub need_if_some : Option TBlock → ℕ
+need_if_some None = 0
+need_if_some (Some block) = (need_of_tblock block).locals
+
+-- how many locals the blocks in a statement need
+abbrev pub blocks_need : TStmt-F TStmt TBlock → ℕ
+blocks_need (tstmt.Let at e) = 0
+blocks_need (tstmt.LetNew at kind) = 0
+blocks_need (tstmt.Set at e) = 0
+blocks_need (tstmt.SetNew at kind) = 0
+blocks_need (tstmt.Store field e) = 0
+blocks_need (tstmt.Free e) = 0
+blocks_need (tstmt.If e block other) = max (need_of_tblock block).locals (need_if_some other)
+blocks_need (tstmt.While e block) = (need_of_tblock block).locals
+blocks_need (tstmt.Break place) = 0
+blocks_need (tstmt.Abort place) = 0
+blocks_need (tstmt.Give place es) = 0
+
+-- a block of a statement: it is served, and needs no more locals than the statement's blocks do
+pub record IsInside (layer : TStmt-F TStmt TBlock) (block : TBlock) : Type 0 where
+  pub served : IsTrue (is_served_tblock block)
+  pub small : (need_of_tblock block).locals ≤ blocks_need layer
+
+-- a block that was entered is one of the statement
+abbrev pub Enters : TStmt-F TStmt TBlock → Step → Type 0
+Enters layer Went = Unit {0}
+Enters layer Broke = Unit {0}
+Enters layer (Entered block test) = IsInside layer block.now
+Enters layer (Ended end) = Unit {0}

@@ -10,7 +10,7 @@ ghost use Rattle.served_program.specs.Served.{is_served_tlayer, is_served_tblock
 ghost use Rattle.thread_tree.specs.declared.transaction.TStmt.{out-TStmt};
 ghost use Rattle.thread_tree.specs.Program.{program_of};
 ghost use Rattle.user_transactions.specs.Fates.{Acted, IsSpent};
-ghost use Rattle.user_transactions.specs.Steps.{declares};
+ghost use Rattle.user_transactions.specs.Steps.{Enters, declares};
 ghost use Rattle.user_transactions.specs.Works.{Keeps};
 
 use crate::ends::ending;
@@ -37,8 +37,10 @@ pub(crate) fn act<'a, N: Nv>(
     requires room { 64 ≤ room_of (N.words tx.old) + work.old.operations }
     requires locals { length work.old.locals.items + declares (out-TStmt statement.now) ≤ 48 }
     ensures acted { IfOk result (λ step. Acted (program_of program.now) (image_in (N.words tx.old)) work.old statement.now (image_in (N.words tx.new)) work.new step) }
+    ensures enters { IfOk result (λ step. Enters (out-TStmt statement.now) step) }
     ensures grown { length work.new.locals.items ≤ length work.old.locals.items + declares (out-TStmt statement.now) }
     ensures spent { IfOk result (λ step. IsSpent work.old.moves work.new.moves step) }
+    ensures moves { work.new.moves ≤ work.old.moves }
     ensures few { work.new.operations ≤ 64 }
     ensures more { work.old.operations ≤ work.new.operations }
     ensures keeps { OnOk result (Keeps N.Nv (program_of program.now) tx.old tx.new (work.new.operations - work.old.operations)) }

@@ -17,9 +17,9 @@ use thread_check::Checked;
 use thread_tree::{Expr, List, TStmt};
 use undo_journal::Open;
 
-// One value more, of which the first three are kept.
+/// One value more, of which the first three are kept.
 #[tactic(auto, using(crate::proofs::GiveLaws::keep_laws))]
-fn keep(values: &mut ArrayVec<u32, 3>, value: u32)
+pub(crate) fn keep(values: &mut ArrayVec<u32, 3>, value: u32)
     ensures kept { values.new.items ≡ take 3 (values.old.items ++ value ∷ []) }
 {
     if values.len() < 3 {

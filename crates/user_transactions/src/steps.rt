@@ -10,7 +10,7 @@ ghost use Rattle.served_program.specs.Served.{is_served_tlayer, is_served_tblock
 ghost use Rattle.thread_tree.specs.declared.transaction.TStmt.{out-TStmt};
 ghost use Rattle.thread_tree.specs.declared.transaction.TStmt.TheOpen as tstmt;
 ghost use Rattle.thread_tree.specs.Program.{program_of};
-ghost use Rattle.user_transactions.specs.Steps.{Stepped, ends, declares};
+ghost use Rattle.user_transactions.specs.Steps.{Stepped, Enters, ends, declares, is_served_statement};
 ghost use Rattle.user_transactions.specs.Works.{Keeps};
 
 use crate::moves::{declare, set, store_at, value};
@@ -23,6 +23,7 @@ use thread_tree::{Expr, FieldOf, TBlock, TStmt};
 use undo_journal::Open;
 
 // An `if`: the block that it chooses is entered, if there is one.
+#[tactic(auto, using(crate::proofs::RoomLaws::inside_laws))]
 fn branch<'a, N: Nv>(
     tx: &Open<N>,
     program: &Checked,
@@ -31,7 +32,9 @@ fn branch<'a, N: Nv>(
     block: &'a TBlock,
     other: &'a Option<TBlock>,
 ) -> Step<'a>
+    requires served { IsTrue (is_served_statement (tstmt.If e.now block.now other.now)) }
     ensures stepped { Stepped (program_of program.now) (image_in (N.words tx.now)) work.old (image_in (N.words tx.now)) work.new (tstmt.If e.now block.now other.now) result }
+    ensures enters { Enters (tstmt.If e.now block.now other.now) result }
     ensures kept { work.new ≡ record work.old { operations = work.new.operations } }
     ensures few { work.old.operations ≤ 64 → work.new.operations ≤ 64 }
     ensures more { work.old.operations ≤ work.new.operations }
@@ -51,6 +54,7 @@ fn branch<'a, N: Nv>(
 }
 
 // A `while`: its block is entered, or passed.
+#[tactic(auto, using(crate::proofs::RoomLaws::inside_laws))]
 fn turn<'a, N: Nv>(
     tx: &Open<N>,
     program: &Checked,
@@ -58,7 +62,9 @@ fn turn<'a, N: Nv>(
     e: &'a Expr,
     block: &'a TBlock,
 ) -> Step<'a>
+    requires served { IsTrue (is_served_statement (tstmt.While e.now block.now)) }
     ensures stepped { Stepped (program_of program.now) (image_in (N.words tx.now)) work.old (image_in (N.words tx.now)) work.new (tstmt.While e.now block.now) result }
+    ensures enters { Enters (tstmt.While e.now block.now) result }
     ensures kept { work.new ≡ record work.old { operations = work.new.operations } }
     ensures few { work.old.operations ≤ 64 → work.new.operations ≤ 64 }
     ensures more { work.old.operations ≤ work.new.operations }
@@ -86,6 +92,7 @@ fn store<'a, N: Nv>(
     requires few { work.old.operations ≤ 64 }
     requires room { 64 ≤ room_of (N.words tx.old) + work.old.operations }
     ensures stepped { IfOk result (λ step. Stepped (program_of program.now) (image_in (N.words tx.old)) work.old (image_in (N.words tx.new)) work.new (tstmt.Store field e.now) step) }
+    ensures enters { IfOk result (λ step. Enters (tstmt.Store field e.now) step) }
     ensures kept { work.new ≡ record work.old { operations = work.new.operations } }
     ensures few { work.new.operations ≤ 64 }
     ensures more { work.old.operations ≤ work.new.operations }
@@ -118,6 +125,7 @@ pub(crate) fn step<'a, N: Nv>(
     requires room { 64 ≤ room_of (N.words tx.old) + work.old.operations }
     requires locals { length work.old.locals.items + declares (out-TStmt statement.now) ≤ 48 }
     ensures stepped { IfOk result (λ step. Stepped (program_of program.now) (image_in (N.words tx.old)) work.old (image_in (N.words tx.new)) work.new (out-TStmt statement.now) step) }
+    ensures enters { IfOk result (λ step. Enters (out-TStmt statement.now) step) }
     ensures grown { length work.new.locals.items ≤ length work.old.locals.items + declares (out-TStmt statement.now) }
     ensures moves { work.new.moves ≡ work.old.moves }
     ensures few { work.new.operations ≤ 64 }
