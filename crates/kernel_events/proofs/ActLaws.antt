@@ -1,6 +1,6 @@
 -- What each action leaves stands for the kernel after the step.
-use Rattle.std.proofs.Common.{rules, ◌≡◌, ℕ, ◌+◌, ◌<◌, ◌≤◌, List, [], ◌∷◌, ◌++◌, length, Option, Some, None, Bool, true, false, refl, ap, sym, subst, ◌∙◌, arith, cond}
-use Rattle.std.specs.Prelude.{if◌then◌else◌, nat_le, nat_lt, slice_set, slice_index_or, slice_get}
+use Rattle.std.proofs.Common.{◌≡◌, ℕ, ◌+◌, ◌<◌, ◌≤◌, List, [], ◌∷◌, length, Option, Some, None, Bool, true, false, refl, ap, sym, subst, ◌∙◌, arith}
+use Rattle.std.specs.Prelude.{if◌then◌else◌, nat_le, nat_lt, slice_set}
 use Rattle.thread_tree.specs.declared.action.Call.TheVariants.{Print}
 use Rattle.thread_tree.specs.declared.action.Item.{Item}
 use Rattle.thread_tree.specs.declared.block.Stmt.{Stmt, out-Stmt}
@@ -29,11 +29,10 @@ use Rattle.kernel_model.specs.Kernel.Row.{Live, Ended}
 use Rattle.kernel_model.specs.Objects.{first_place}
 use Rattle.kernel_model.specs.Visible.{Object}
 use Rattle.kernel_model.specs.Order.{chosen}
-use Rattle.kernel_model.specs.Run.{record_room, arrived, counted, one}
+use Rattle.kernel_model.specs.Run.{record_room, arrived, one}
 use Rattle.kernel_model.specs.Serve.{served, settle, settled}
 use Rattle.kernel_model.specs.Serve.Fate.{Serves, Stops}
 use Rattle.kernel_model.specs.Sound.{IsSound}
-use Rattle.kernel_image.specs.Agree.{Agrees}
 use Rattle.kernel_image.specs.Decoded.{Decoded, RowWords, blank_row, row_at, with_row, listed}
 use Rattle.kernel_image.specs.Shown.{objects_in, byte_of}
 use Rattle.persistent_objects.specs.Holes.{AreHoles}
@@ -42,7 +41,7 @@ use Rattle.replay_list.proofs.LifeLaws.{agrees_recorded, agrees_ended}
 use Rattle.replay_list.proofs.RowLaws.{row_live}
 use Rattle.replay_list.proofs.ShownLaws.{shows_parts}
 use Rattle.replay_list.specs.Records.{IsRecorded}
-use Rattle.replay_list.specs.Stands.{Stands, IsRow, IsLife, IsContextOf, HasContext, KernelStands, console_in}
+use Rattle.replay_list.specs.Stands.{IsRow, IsLife, KernelStands, console_in}
 use Rattle.kernel_events.specs.Actions.{IsServed, IsPrinted, print_action, fits_on, ok_of, printed_on}
 use Rattle.kernel_events.specs.Follows.{Follows}
 use Rattle.kernel_events.proofs.FollowLaws.{IsCounted, follows-row, follows-nobody, served-is, stopped-is, thread-row}

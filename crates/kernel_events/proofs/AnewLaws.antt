@@ -1,5 +1,5 @@
 -- A transaction that is undone and opened anew.
-use Rattle.std.proofs.Common.{◌≡◌, ℕ, ◌+◌, ◌-◌, ◌≤◌, List, Bool, true, false, refl, ap, arith, cond}
+use Rattle.std.proofs.Common.{◌≡◌, ℕ, ◌+◌, ◌≤◌, List, Bool, true, false, refl, arith, cond}
 use Rattle.std.specs.Prelude.{◌==◌, slice_index}
 use Rattle.undo_journal.specs.Undo.{magic, entries, undone, durable, outside, undoing, room_of}
 

@@ -1,5 +1,5 @@
 -- What stands where the chosen thread arrives, and what it leaves.
-use Rattle.std.proofs.Common.{rules, ◌≡◌, ℕ, zero, suc, ◌+◌, ◌<◌, ◌≤◌, List, [], ◌∷◌, length, Option, Some, None, Bool, true, false, refl, ap, sym, subst, ◌∙◌, arith}
+use Rattle.std.proofs.Common.{◌≡◌, ℕ, zero, suc, ◌+◌, ◌<◌, ◌≤◌, List, length, Option, Some, None, Bool, true, false, refl, ap, sym, subst, ◌∙◌, arith}
 use Rattle.std.specs.Prelude.{nat_lt, slice_set, slice_get, option_and_then}
 use Rattle.std.proofs.lemmas.Bool.Decides.{nat_tests}
 use Rattle.thread_tree.specs.declared.action.Call.TheVariants as call
@@ -11,7 +11,7 @@ use Rattle.thread_tree.specs.declared.place.Place.{Place}
 use Rattle.thread_tree.specs.Actions.{actions}
 use Rattle.thread_tree.specs.Ahead.{Ahead, Arrival, ahead, ahead_by, most_moves, stops, goes_on}
 use Rattle.thread_tree.specs.Ahead.Arrival.{AtAction, Finished, Watchdog}
-use Rattle.thread_tree.specs.Kinds.{Action, action_of, action_layer, taking}
+use Rattle.thread_tree.specs.Kinds.{Action, action_of}
 use Rattle.thread_tree.specs.LocalState.{LocalState, move, next_action, next_statement}
 use Rattle.thread_tree.specs.Limits.{IsWithinLimits}
 use Rattle.thread_tree.specs.Program.{Program}
@@ -28,12 +28,12 @@ use Rattle.kernel_model.specs.Kernel.{Activity, State, Thread, thread_of, is_rea
 use Rattle.kernel_model.specs.Kernel.Activity.{Ready, Delayed, Waiting}
 use Rattle.kernel_model.specs.Order.{chosen, line_of}
 use Rattle.kernel_image.specs.Agree.{Both}
-use Rattle.kernel_model.specs.Run.{one, record_room}
+use Rattle.kernel_model.specs.Run.{one}
 use Rattle.kernel_model.specs.Sound.{IsSound, IsSoundThread, IsSoundRow}
 use Rattle.kernel_image.specs.Decoded.{Decoded, row_at, with_row}
 use Rattle.replay_list.proofs.RowLaws.{row_live}
-use Rattle.replay_list.specs.Stands.{IsLife, HasContext, IsContextOf, KernelStands, console_in}
-use Rattle.kernel_events.specs.Actions.{IsPrinted, print_action}
+use Rattle.replay_list.specs.Stands.{IsLife, HasContext, IsContextOf, KernelStands}
+use Rattle.kernel_events.specs.Actions.{IsPrinted}
 use Rattle.kernel_events.specs.Follows.{Arrives}
 use Rattle.std.proofs.lemmas.List.Elements.{All-get_or}
 use Rattle.kernel_model.specs.Kernel.Row.{Free}

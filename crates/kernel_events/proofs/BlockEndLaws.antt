@@ -1,11 +1,10 @@
 -- The ends of a block, on the image.
-use Rattle.std.proofs.Common.{◌≡◌, ℕ, zero, suc, ◌+◌, ◌-◌, ◌*◌, ◌<◌, ◌≤◌, List, [], ◌∷◌, length, take, Option, Some, None, Bool, true, false, refl, ap, sym, subst, ◌∙◌, arith}
-use Rattle.std.specs.Prelude.{Result, Ok, Err, MatchResult, IsTrue, replicate, slice_set, slice_get}
+use Rattle.std.proofs.Common.{◌≡◌, ℕ, zero, suc, ◌+◌, ◌-◌, ◌*◌, ◌<◌, ◌≤◌, List, [], ◌∷◌, length, take, Option, Some, None, true, refl, ap, sym, subst, ◌∙◌, arith}
+use Rattle.std.specs.Prelude.{Result, Ok, Err, MatchResult, replicate, slice_set, slice_get}
 use Rattle.std.proofs.lemmas.List.{length-replicate}
 use Rattle.nv_memory.specs.declared.nv.Nv.{Ghosts}
-use Rattle.nv_memory.specs.Budget.{IsShort}
 use Rattle.undo_journal.specs.Undo.{durable, outside, IsAtRest}
-use Rattle.undo_journal.specs.Lending.{FellWithin, IsLent, IsWithin}
+use Rattle.undo_journal.specs.Lending.{IsLent, IsWithin}
 use Rattle.undo_journal.proofs.Undone.{durable-at_rest}
 use Rattle.thread_tree.specs.declared.block.Stmt.{Stmt, out-Stmt}
 use Rattle.thread_tree.specs.declared.block.Stmt.TheOpen.{Atomic}
@@ -37,7 +36,6 @@ use Rattle.persistent_objects.specs.Holes.{AreHoles, KeepsHoles}
 use Rattle.persistent_objects.specs.Objects.{objects_of}
 use Rattle.replay_list.specs.Stands.{KernelStands, console_in}
 use Rattle.small_actions.specs.Small.{block_gives}
-use Rattle.user_transactions.specs.declared.tx_end.TxEnd.{TxEnd}
 use Rattle.user_transactions.specs.declared.tx_end.TxEnd.TheVariants as tx_end
 use Rattle.user_transactions.specs.Works.{IsEnd}
 use Rattle.kernel_events.specs.Actions.{IsServed}

@@ -1,7 +1,6 @@
 -- What each end of a block leaves stands for the kernel after the step.
-use Rattle.std.proofs.Common.{◌≡◌, ℕ, ◌+◌, ◌-◌, ◌*◌, ◌<◌, ◌≤◌, List, [], ◌∷◌, length, Option, Some, None, Bool, true, false, refl, ap, sym, subst, ◌∙◌, arith}
-use Rattle.std.specs.Prelude.{nat_lt, replicate, slice_set, slice_get}
-use Rattle.std.proofs.lemmas.List.{length-replicate}
+use Rattle.std.proofs.Common.{◌≡◌, ℕ, ◌+◌, ◌-◌, ◌*◌, ◌≤◌, List, [], length, Option, Some, false, refl, ap, sym, subst, ◌∙◌, arith}
+use Rattle.std.specs.Prelude.{nat_lt, slice_set}
 use Rattle.thread_tree.specs.declared.block.Stmt.{Stmt, out-Stmt}
 use Rattle.thread_tree.specs.declared.block.Stmt.TheOpen.{Atomic}
 use Rattle.thread_tree.specs.declared.place.At.{At}
@@ -9,33 +8,32 @@ use Rattle.thread_tree.specs.declared.place.Place.{Place}
 use Rattle.thread_tree.specs.declared.transaction.TBlock.{TBlock}
 use Rattle.thread_tree.specs.Ahead.{ahead}
 use Rattle.thread_tree.specs.Ahead.Arrival.{AtAction}
-use Rattle.thread_tree.specs.Kinds.{Action, action_of, action_layer, taking}
+use Rattle.thread_tree.specs.Kinds.{Action, action_layer, taking}
 use Rattle.thread_tree.specs.LocalState.{bind}
 use Rattle.thread_tree.specs.Program.{Program}
 use Rattle.thread_machine.specs.declared.context.Ctx.{Ctx}
 use Rattle.thread_machine.specs.Context.{local_of}
 use Rattle.thread_machine.specs.Reached.{IsContext}
 use Rattle.kernel_model.specs.declared.event.Event.TheVariants.{Step}
-use Rattle.kernel_model.specs.Act.{effect_of, effect_of_layer, effect_of_end, need}
+use Rattle.kernel_model.specs.Act.{effect_of_layer, effect_of_end}
 use Rattle.kernel_model.specs.Kernel.{Thread, State, thread_of}
 use Rattle.kernel_model.specs.Kernel.Activity.{Ready}
 use Rattle.kernel_model.specs.Objects.{first_place}
 use Rattle.kernel_model.specs.Order.{chosen}
 use Rattle.kernel_model.specs.Run.{record_room, one}
 use Rattle.kernel_model.specs.Serve.{settle, settled}
-use Rattle.kernel_model.specs.Serve.Fate.{Serves, Stops}
+use Rattle.kernel_model.specs.Serve.Fate.{Serves}
 use Rattle.kernel_model.specs.Sound.{IsSound}
 use Rattle.kernel_model.specs.Transactions.{BlockEnd, block}
-use Rattle.kernel_model.specs.Transactions.BlockEnd.{Gave, Aborted, Fault}
 use Rattle.kernel_model.specs.Visible.{Object}
-use Rattle.kernel_image.specs.Decoded.{Decoded, row_at, with_row}
+use Rattle.kernel_image.specs.Decoded.{Decoded}
 use Rattle.kernel_image.specs.Shown.{objects_in}
 use Rattle.persistent_objects.specs.Holes.{AreHoles}
 use Rattle.replay_list.specs.Stands.{KernelStands, console_in}
 use Rattle.kernel_events.specs.Actions.{IsServed}
 use Rattle.kernel_events.specs.Follows.{Follows}
 use Rattle.kernel_events.proofs.StepLaws.{run_ahead, wanted, step-acted}
-use Rattle.kernel_events.proofs.ActLaws.{ServedLaw, IsDone, needed_by, at_most, follows-served, stands-after, stands-stopped}
+use Rattle.kernel_events.proofs.ActLaws.{ServedLaw, IsDone, needed_by, at_most, follows-served, stands-after}
 
 -- the action that a block is, whose results these names take
 abbrev pub block_action : List At → Action

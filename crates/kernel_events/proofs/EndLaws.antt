@@ -1,8 +1,8 @@
 -- Ends of transactions, one after another.
-use Rattle.std.proofs.Common.{◌≡◌, ℕ, ◌+◌, ◌-◌, ◌*◌, ◌<◌, ◌≤◌, Option, Some, None, List, refl, ap, arith, ◌∙◌, sym}
+use Rattle.std.proofs.Common.{◌≡◌, ℕ, ◌+◌, ◌*◌, ◌≤◌, Option, Some, None, List, ap, arith, ◌∙◌}
 use Rattle.nv_memory.specs.Budget.{spent, IsShort}
 use Rattle.nv_memory.specs.declared.nv.Nv.{Ghosts}
-use Rattle.undo_journal.specs.Undo.{durable, outside, room_of, IsJournalled, IsAtRest}
+use Rattle.undo_journal.specs.Undo.{outside, IsJournalled}
 use Rattle.undo_journal.specs.Lending.{IsLent, IsWithin, FellWithin}
 use Rattle.kernel_image.specs.Decoded.{decoded_of, image_in}
 use Rattle.kernel_image.specs.Cells.{cells}

@@ -1,14 +1,10 @@
 -- What an event leaves follows the step of the uncut run.
-use Rattle.std.proofs.Common.{◌≡◌, ℕ, zero, suc, ◌+◌, ◌*◌, ◌<◌, ◌≤◌, List, [], ◌∷◌, length, map, Option, Some, None, Bool, true, false, refl, ap, sym, subst, ◌∙◌, arith}
+use Rattle.std.proofs.Common.{◌≡◌, ℕ, zero, suc, ◌+◌, ◌<◌, List, [], ◌∷◌, length, map, Option, Some, ap, sym, subst, ◌∙◌, arith}
 use Rattle.std.specs.Prelude.{slice_set, slice_index_or}
 use Rattle.std.specs.List.{enumerate_from}
-use Rattle.thread_tree.specs.declared.block.Stmt.{Stmt}
 use Rattle.thread_tree.specs.Program.{Program}
 use Rattle.thread_tree.specs.Ahead.{ahead}
-use Rattle.thread_tree.specs.LocalState.{bind}
 use Rattle.thread_machine.specs.declared.context.Ctx.{Ctx}
-use Rattle.thread_machine.specs.Context.{local_of}
-use Rattle.thread_machine.specs.Reached.{IsContext}
 use Rattle.kernel_model.specs.Visible.{Object}
 use Rattle.kernel_model.specs.Kernel as kernel
 use Rattle.kernel_model.specs.Kernel.{Thread, State, thread_of, row_of, live_in, changed, with_row, row_with}
@@ -17,11 +13,11 @@ use Rattle.kernel_model.specs.Objects.{first_place}
 use Rattle.kernel_model.specs.Serve.{served, settle, stopped}
 use Rattle.kernel_model.specs.Serve.Fate.{Serves, Stops}
 use Rattle.kernel_model.specs.Run.{arrived, counted}
-use Rattle.kernel_image.specs.Agree.{Agrees, Both, IsThread}
-use Rattle.kernel_image.specs.Decoded.{Decoded, QueueWords, RowWords, SemaphoreWords, row_at, with_row as with_row_words, blank_row, blank_queue, blank_semaphore}
+use Rattle.kernel_image.specs.Agree.{Both}
+use Rattle.kernel_image.specs.Decoded.{Decoded, QueueWords, SemaphoreWords, row_at, with_row as with_row_words, blank_queue, blank_semaphore}
 use Rattle.kernel_image.specs.Shown.{items_of, objects_in}
 use Rattle.persistent_objects.specs.Holes.{AreHoles}
-use Rattle.replay_list.specs.Stands.{IsRow, HasContext, IsContextOf, KernelStands, items_in, counts_in, console_in}
+use Rattle.replay_list.specs.Stands.{IsRow, HasContext, KernelStands, items_in, counts_in, console_in}
 use Rattle.kernel_events.specs.Follows.{Follows}
 use Rattle.replay_list.proofs.BothLaws.{both_set}
 use Rattle.kernel_events.proofs.SetLaws.{set-again, set-at}

@@ -1,5 +1,5 @@
 -- The statements of served actions.
-use Rattle.std.proofs.Common.{◌≡◌, ℕ, ◌-◌, ◌≤◌, List, length, Option, Some, None, Bool, true, false, refl, ap, sym, subst, ◌∙◌}
+use Rattle.std.proofs.Common.{◌≡◌, ◌-◌, ◌≤◌, List, length, Some, None, true, ap, subst}
 use Rattle.std.specs.Prelude.{IsTrue}
 use Rattle.thread_tree.specs.declared.action.Call.{Call}
 use Rattle.thread_tree.specs.declared.action.Call.TheVariants as call
@@ -12,7 +12,7 @@ use Rattle.thread_tree.specs.declared.place.At.{At}
 use Rattle.thread_tree.specs.declared.place.Place.{Place}
 use Rattle.thread_tree.specs.declared.transaction.TBlock.{TBlock}
 use Rattle.served_program.specs.Served.{is_served_action, is_served_call, is_served_tblock}
-use Rattle.small_actions.specs.Small.{IsSmallAction, IsSmallCall, block_gives}
+use Rattle.small_actions.specs.Small.{IsSmallAction, block_gives}
 use Rattle.kernel_events.specs.Actions.{printed_by, printed_items, block_names}
 
 -- a statement that prints these items

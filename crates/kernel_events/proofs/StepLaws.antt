@@ -1,17 +1,16 @@
 -- A step of the uncut run, by how its thread arrives.
-use Rattle.std.proofs.Common.{◌≡◌, ℕ, ◌+◌, ◌<◌, ◌≤◌, List, [], ◌∷◌, Option, Some, None, Bool, true, false, refl, ap, sym, subst, ◌∙◌, cond}
-use Rattle.std.specs.Prelude.{if◌then◌else◌, nat_lt, length, slice_set, slice_index_or}
+use Rattle.std.proofs.Common.{◌≡◌, ℕ, ◌+◌, Option, Some, None, true, false, refl, ap, sym, subst, ◌∙◌, cond}
+use Rattle.std.specs.Prelude.{if◌then◌else◌, nat_lt}
 use Rattle.kernel_model.specs.declared.event.Event.TheVariants.{Step}
-use Rattle.kernel_model.specs.Kernel.{Thread, Row, State, thread_of, row_of, changed, with_row, row_with}
-use Rattle.kernel_model.specs.Kernel.Row.{Free, Ended, Live}
+use Rattle.kernel_model.specs.Kernel.{Thread, State, thread_of, changed}
 use Rattle.kernel_model.specs.Order.{chosen}
 use Rattle.kernel_model.specs.Act.{effect_of, need}
 use Rattle.kernel_model.specs.Serve.{settle, settled}
 use Rattle.kernel_model.specs.Serve.Fate.{Stops}
-use Rattle.kernel_model.specs.Run.{record_room, ordinary_end, watchdog, no_record_room, arrived, performed, step_of, step, counted, one}
+use Rattle.kernel_model.specs.Run.{record_room, ordinary_end, watchdog, no_record_room, arrived, step_of, counted, one}
 use Rattle.thread_tree.specs.declared.block.Stmt.{Stmt}
 use Rattle.thread_tree.specs.Program.{Program}
-use Rattle.thread_tree.specs.Ahead.{Ahead, Arrival, ahead}
+use Rattle.thread_tree.specs.Ahead.{Arrival, ahead}
 use Rattle.thread_tree.specs.Ahead.Arrival.{AtAction, Finished, Watchdog}
 
 -- where nobody is ready the event is counted

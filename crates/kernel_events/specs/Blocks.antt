@@ -1,6 +1,6 @@
 -- What the end of a block leaves.
 use Rattle.std.specs.Prelude.{◌≡◌, ℕ, List, Option, Some, slice_set}
-use Rattle.thread_tree.specs.LocalState.{LocalState, bind}
+use Rattle.thread_tree.specs.LocalState.{bind}
 use Rattle.thread_tree.specs.Program.{Program}
 use Rattle.thread_machine.specs.declared.context.Ctx.{Ctx}
 use Rattle.thread_machine.specs.Context.{local_of}

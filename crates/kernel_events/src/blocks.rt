@@ -29,7 +29,6 @@ ghost use Rattle.kernel_events.specs.Follows.{Arrives};
 use crate::closing::{commit, stop};
 use crate::ending::count;
 use crate::serving::serve;
-use crate::stub::perform;
 use arrayvec::ArrayVec;
 use kernel_model::soundness;
 use nv_memory::{Cut, Nv};
@@ -39,7 +38,7 @@ use thread_check::Checked;
 use thread_machine::{Contexts, Ctx};
 use thread_tree::{At, List};
 use undo_journal::{Dark, Open};
-use user_transactions::TxEnd;
+use user_transactions::{TxEnd, perform};
 
 /// The kind of a block, and what each word that it gives adds to its kind word.
 const ATOMIC: u32 = 16;

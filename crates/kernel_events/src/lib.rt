@@ -11,6 +11,5 @@ mod prints;
 mod running;
 mod serving;
 mod stepping;
-mod stub;
 
 pub use stepping::event;

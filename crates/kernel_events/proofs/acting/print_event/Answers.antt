@@ -1,7 +1,7 @@
 -- A print with room for its record, and one without.
-use Rattle.std.proofs.Common.{rules, ◌≡◌, ◌+◌, ◌<◌, ◌≤◌, Some, None, Option, arith, ap, sym, ◌∙◌, refl, subst}
+use Rattle.std.proofs.Common.{rules, ◌≡◌, ◌+◌, Some, arith, ap, sym, ◌∙◌, subst}
 use Rattle.std.specs.Prelude.{slice_set}
-use Rattle.kernel_image.specs.Decoded.{Decoded, image_in, row_at, with_row}
+use Rattle.kernel_image.specs.Decoded.{image_in, row_at, with_row}
 use Rattle.kernel_model.specs.Kernel.{State, Thread}
 use Rattle.thread_tree.specs.Kinds.{action_layer, taking}
 use Rattle.thread_tree.specs.Program.{program_of}

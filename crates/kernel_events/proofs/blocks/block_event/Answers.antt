@@ -1,5 +1,5 @@
 -- A block with room for its record, and one without.
-use Rattle.std.proofs.Common.{rules, ◌≡◌, ◌+◌, ◌-◌, ◌<◌, ◌≤◌, length, ap, sym, subst, ◌∙◌, arith}
+use Rattle.std.proofs.Common.{rules, ◌≡◌, ◌+◌, sym, subst, arith}
 use Rattle.thread_tree.specs.Program.{program_of}
 use Rattle.thread_machine.specs.declared.next.Next.TheVariants.{Action}
 use Rattle.kernel_image.specs.Decoded.{image_in, row_at, with_row}

@@ -1,6 +1,6 @@
 -- A block that gives, aborts or faults.
-use Rattle.std.proofs.Common.{rules, ◌≡◌, ℕ, suc, true, Option, ◌+◌, ◌-◌, ◌*◌, ◌<◌, ◌≤◌, ◌∷◌, length, ap, sym, subst, ◌∙◌, Some, arith, refl}
-use Rattle.std.specs.Prelude.{IsSomeAnd, IfOk, replicate, slice_get}
+use Rattle.std.proofs.Common.{◌≡◌, ℕ, suc, true, Option, ◌+◌, ◌-◌, ◌*◌, ◌∷◌, length, ap, sym, subst, ◌∙◌, Some, arith}
+use Rattle.std.specs.Prelude.{IsSomeAnd, replicate}
 use Rattle.std.proofs.lemmas.List.{length-replicate}
 use Rattle.thread_tree.specs.Kinds.{Action as TheAction, action_layer, result_count}
 use Rattle.thread_tree.specs.LocalState.{next_action}
@@ -11,10 +11,7 @@ use Rattle.kernel_image.specs.Decoded.{Decoded, image_in, row_at, with_row}
 use Rattle.kernel_model.specs.declared.event.Event.TheVariants.{Step}
 use Rattle.kernel_model.specs.Kernel.{State, Thread}
 use Rattle.kernel_model.specs.Run.{one}
-use Rattle.persistent_objects.specs.Objects.{objects_of}
-use Rattle.kernel_model.specs.Sound.{AreSoundObjects}
 use Rattle.replay_list.specs.Stands.{KernelStands}
-use Rattle.user_transactions.specs.declared.tx_end.TxEnd.TheVariants.{Gave, Aborted, Fault}
 use Rattle.user_transactions.specs.Works.{IsEnd}
 use Rattle.small_actions.specs.Small.{block_gives}
 use Rattle.kernel_events.specs.Blocks.{IsRecordedEvent, IsBound}
@@ -22,7 +19,7 @@ use Rattle.kernel_events.specs.Follows.{Arrives}
 use Rattle.kernel_events.proofs.ArriveLaws.{action-is, statement-here}
 use Rattle.kernel_events.proofs.BlockLaws.{block_action}
 use Rattle.kernel_events.proofs.BlockEndLaws.{ends-anew, image-anew, performed_end, gave-many, stands-gave, stands-aborted, stands-faulted}
-use Rattle.kernel_events.proofs.ResultLaws.{ok_from, ok_one}
+use Rattle.kernel_events.proofs.ResultLaws.{ok_from}
 use Rattle.kernel_events.proofs.blocks.perform_block.Goals as goal
 
 pub perform-requires-clause-here : goal.perform-requires-clause-here

@@ -1,5 +1,5 @@
 -- One item more.
-use Rattle.std.proofs.Common.{rules, ◌≡◌, ◌+◌, ◌*◌, ◌≤◌, ◌++◌, length, take, sym, ◌∙◌, ap, arith, Some, refl}
+use Rattle.std.proofs.Common.{rules, ◌≡◌, ◌+◌, ◌++◌, length, take, sym, ◌∙◌, ap, arith, Some}
 use Rattle.std.specs.Prelude.{slice_get, flat_map}
 use Rattle.std.proofs.lemmas.List.{length-append}
 use Rattle.thread_tree.specs.Kinds.{operands_of_item}

@@ -1,5 +1,5 @@
 -- The action at which the thread arrives is a print or a block, and small.
-use Rattle.std.proofs.Common.{◌≡◌, ap, sym, ◌∙◌, Some, None}
+use Rattle.std.proofs.Common.{ap, sym, ◌∙◌}
 use Rattle.std.specs.Option.{option_copied}
 use Rattle.thread_tree.specs.declared.block.Stmt.{out-Stmt}
 use Rattle.thread_tree.specs.Program.{program_of}

@@ -1,5 +1,5 @@
 -- The chosen thread has its context, and where it arrives the event follows the step.
-use Rattle.std.proofs.Common.{◌≡◌, ◌+◌, ◌<◌, ◌≤◌, ap, sym, subst, ◌∙◌, Some, None, arith}
+use Rattle.std.proofs.Common.{◌≡◌, ◌+◌, ◌<◌, sym, subst, ◌∙◌, Some, None, arith}
 use Rattle.std.specs.Prelude.{slice_set}
 use Rattle.thread_tree.specs.Ahead.{most_moves}
 use Rattle.thread_tree.specs.Program.{program_of}

@@ -1,5 +1,5 @@
 -- The chosen thread runs; where there is none the event is counted alone.
-use Rattle.std.proofs.Common.{◌≡◌, ◌+◌, ◌<◌, ◌≤◌, ap, sym, subst, ◌∙◌, Some, None}
+use Rattle.std.proofs.Common.{◌≡◌, ◌+◌, ◌<◌, sym, subst, ◌∙◌, Some}
 use Rattle.thread_tree.specs.Program.{program_of}
 use Rattle.kernel_image.specs.Decoded.{image_in}
 use Rattle.kernel_model.specs.declared.event.Event.TheVariants.{Step}
