@@ -1,0 +1,4 @@
+pub mod Follows
+pub mod Actions
+pub mod Ends
+pub mod Blocks

@@ -1,0 +1,89 @@
+// Ends of an event's transaction.
+ghost use Rattle.std.specs.Prelude.{◌≡◌, ◌+◌, ◌<◌, ◌≤◌, ◌^◌, IsErr, IfOk, OnOk, OnErr, MatchResult, Some};
+ghost use Rattle.nv_memory.specs.Budget.{IsShort};
+ghost use Rattle.undo_journal.specs.Undo.{room_of};
+ghost use Rattle.undo_journal.specs.Lending.{IsLent, IsWithin};
+ghost use Rattle.kernel_image.specs.Decoded.{image_in, row_at, with_row};
+ghost use Rattle.kernel_events.specs.Ends.{IsCommitted, IsLost};
+
+use crate::ending::{count, end};
+use nv_memory::{Cut, Nv};
+use replay_list::Kernel;
+use thread_machine::Contexts;
+use undo_journal::{Dark, Open};
+
+/// Commits an event.
+#[tactic(auto, using(crate::proofs::EndLaws::fell_spent, crate::proofs::EndLaws::image_outside))]
+pub fn commit<N: Nv>(tx: Open<N>, contexts: Contexts) -> Result<Kernel<N>, Dark<N>>
+    ensures image { IfOk result (λ next. image_in (N.words next.idle) ≡ image_in (N.words tx)) }
+    ensures contexts { IfOk result (λ next. next.contexts ≡ contexts) }
+    ensures ends { MatchResult result (λ next. IsCommitted N.Nv 1 tx next.idle) (IsLost N.Nv 1 tx) }
+{
+    match tx.commit() {
+        Ok(idle) => Ok(Kernel { idle, contexts }),
+        Err(dark) => Err(dark),
+    }
+}
+
+/// Counts the event and ends a thread with a code.
+pub fn halt<N: Nv>(tx: &mut Open<N>, thread: u32, code: u32) -> Result<(), Cut>
+    requires thread { thread < 16 }
+    requires events { (image_in (N.words tx.old)).events + 1 < 2 ^ 32 }
+    requires room { 3 ≤ room_of (N.words tx.old) }
+    ensures halted { OnOk result (image_in (N.words tx.new)
+        ≡ with_row (record (image_in (N.words tx.old)) { events = (image_in (N.words tx.old)).events + 1 }) thread
+        (record (row_at (image_in (N.words tx.old)) thread) { state = 4; code = code })) }
+    ensures cut { IsErr result → IsShort (N.left tx.old) 12 }
+    ensures dark { OnErr result (N.left tx.new ≡ Some 0) }
+    ensures lent { IsLent N.Nv tx.old tx.new }
+    ensures within { OnOk result (IsWithin N.Nv tx.old tx.new 3) }
+{
+    count(tx)?;
+    end(tx, thread, code)?;
+    Ok(())
+}
+
+/// An event in which a thread ends.
+pub fn stop<N: Nv>(
+    tx: Open<N>,
+    contexts: Contexts,
+    thread: u32,
+    code: u32,
+) -> Result<Kernel<N>, Dark<N>>
+    requires thread { thread < 16 }
+    requires events { (image_in (N.words tx)).events + 1 < 2 ^ 32 }
+    requires room { 3 ≤ room_of (N.words tx) }
+    ensures stopped { IfOk result (λ next. image_in (N.words next.idle)
+        ≡ with_row (record (image_in (N.words tx)) { events = (image_in (N.words tx)).events + 1 }) thread
+        (record (row_at (image_in (N.words tx)) thread) { state = 4; code = code })) }
+    ensures contexts { IfOk result (λ next. next.contexts ≡ contexts) }
+    ensures ends { MatchResult result (λ next. IsCommitted N.Nv 13 tx next.idle) (IsLost N.Nv 13 tx) }
+{
+    let mut tx = tx;
+    if halt(&mut tx, thread, code).is_err() {
+        return Err(tx.lose());
+    }
+    match commit(tx, contexts) {
+        Ok(next) => Ok(next),
+        Err(dark) => Err(dark),
+    }
+}
+
+/// An event in which nobody runs.
+pub fn pass<N: Nv>(tx: Open<N>, contexts: Contexts) -> Result<Kernel<N>, Dark<N>>
+    requires events { (image_in (N.words tx)).events + 1 < 2 ^ 32 }
+    requires room { 1 ≤ room_of (N.words tx) }
+    ensures counted { IfOk result (λ next. image_in (N.words next.idle)
+        ≡ record (image_in (N.words tx)) { events = (image_in (N.words tx)).events + 1 }) }
+    ensures contexts { IfOk result (λ next. next.contexts ≡ contexts) }
+    ensures ends { MatchResult result (λ next. IsCommitted N.Nv 5 tx next.idle) (IsLost N.Nv 5 tx) }
+{
+    let mut tx = tx;
+    if count(&mut tx).is_err() {
+        return Err(tx.lose());
+    }
+    match commit(tx, contexts) {
+        Ok(next) => Ok(next),
+        Err(dark) => Err(dark),
+    }
+}

@@ -1,0 +1,100 @@
+// The event of the chosen thread.
+ghost use Rattle.std.specs.Prelude.{◌≡◌, ◌+◌, ◌<◌, ◌≤◌, IfOk, IsTrue, MatchResult, None, Some, ℕ};
+ghost use Rattle.undo_journal.specs.Undo.{IsAtRest};
+ghost use Rattle.thread_tree.specs.Program.{program_of};
+ghost use Rattle.thread_machine.specs.declared.next.Next.TheVariants.{Action};
+ghost use Rattle.kernel_image.specs.Decoded.{image_in};
+ghost use Rattle.kernel_model.specs.declared.event.Event.TheVariants.{Step};
+ghost use Rattle.kernel_model.specs.Kernel.{State, Thread};
+ghost use Rattle.kernel_model.specs.Order.{chosen};
+ghost use Rattle.kernel_model.specs.Run.{one};
+ghost use Rattle.replay_list.specs.Stands.{KernelStands};
+ghost use Rattle.served_program.specs.Served.{is_served};
+ghost use Rattle.kernel_events.specs.Ends.{IsCommitted, IsLost};
+ghost use Rattle.kernel_events.specs.Follows.{Arrives};
+
+use crate::acting::print_event;
+use crate::actions::{block_names, printed_items};
+use crate::blocks::block_event;
+use crate::closing::stop;
+use kernel_model::{order, soundness};
+use nv_memory::Nv;
+use replay_list::{Kernel, standing_laws};
+use served_program::served_laws;
+use small_actions::small_actions;
+use std::sync::ledger::Ledger;
+use step_counter::Steps;
+use thread_check::Checked;
+use thread_machine::{Contexts, Ctx, Next};
+use undo_journal::{Dark, Open};
+
+/// The codes of a thread that comes to its end, and of one that makes too many moves.
+const ORDINARY_END: u32 = 0;
+
+const WATCHDOG: u32 = 1;
+
+/// The event of a thread that arrives at the action of this number.
+fn act<N: Nv>(
+    tx: Open<N>,
+    program: &Checked,
+    contexts: Contexts,
+    ctx: Ctx,
+    thread: u32,
+    number: u32,
+) -> Result<Kernel<N>, Dark<N>>
+    requires at_rest { IsAtRest (N.words tx) }
+    requires served { IsTrue (is_served program.now) }
+    requires thread { thread < 16 }
+    requires arrives { (K : State) × (runner : Thread) × Arrives (program_of program.now) (image_in (N.words tx)) contexts K thread runner ctx (Action number) }
+    ensures happened { IfOk result (λ next. (K : State) (runner : Thread) → Arrives (program_of program.now) (image_in (N.words tx)) contexts K thread runner ctx (Action number)
+        → KernelStands (program_of program.now) (image_in (N.words next.idle)) next.contexts (one (program_of program.now) K Step)) }
+    ensures ends { MatchResult result (λ next. IsCommitted N.Nv 6400 tx next.idle) (IsLost N.Nv 6400 tx) }
+{
+    served_laws();
+    small_actions();
+    let _ = program.tree();
+    let statement = program.action(number);
+    match printed_items(statement) {
+        Some(items) => print_event(tx, program, contexts, ctx, thread, number, items),
+        None => match block_names(statement) {
+            Some(to) => block_event(tx, program, contexts, ctx, thread, number, to),
+            None => unreachable!(),
+        },
+    }
+}
+
+/// The event of the chosen thread: it runs ahead, and performs its action or ends.
+pub fn run<N: Nv, L: Ledger>(
+    tx: Open<N>,
+    program: &Checked,
+    contexts: Contexts,
+    thread: u32,
+    steps: &mut Steps<L>,
+) -> Result<Kernel<N>, Dark<N>>
+    requires at_rest { IsAtRest (N.words tx) }
+    requires served { IsTrue (is_served program.now) }
+    requires thread { thread < 16 }
+    requires stands { (K : State) × KernelStands (program_of program.now) (image_in (N.words tx)) contexts K × (K.events < 1000000) × (chosen K ≡ Some thread) }
+    ensures happened { IfOk result (λ next. (K : State) → KernelStands (program_of program.now) (image_in (N.words tx)) contexts K → K.events < 1000000 → chosen K ≡ Some thread
+        → KernelStands (program_of program.now) (image_in (N.words next.idle)) next.contexts (one (program_of program.now) K Step)) }
+    ensures ends { MatchResult result (λ next. IsCommitted N.Nv 6400 tx next.idle) (IsLost N.Nv 6400 tx) }
+    ensures counted { steps.old ≤ steps.new }
+    ensures steps { steps.new ≤ steps.old + 10000 }
+{
+    soundness();
+    order();
+    standing_laws();
+    let _ = program.tree();
+    let mut contexts = contexts;
+    match contexts.take(thread) {
+        Some(ctx) => {
+            let mut ctx = ctx;
+            match ctx.ahead(program, steps) {
+                Next::Finished => stop(tx, contexts, thread, ORDINARY_END),
+                Next::Watchdog => stop(tx, contexts, thread, WATCHDOG),
+                Next::Action(number) => act(tx, program, contexts, ctx, thread, number),
+            }
+        }
+        None => unreachable!(),
+    }
+}
