@@ -55,10 +55,25 @@ pub run-requires : goal.run-requires
 run-requires g t c κs within =
     let spent : IsSpent c.running.work.moves c.act.new.work.moves (step.Entered c.in-Entered.inner c.in-Entered.test) = subst (λ (n : Step). IsSpent c.running.work.moves c.act.new.work.moves n) c.in-Entered.is c.in_ok-act.ensures.spent in
     let inside : IsInside (out-TStmt c.get.result.now) c.in-Entered.inner.now = subst (λ (n : Step). Enters (out-TStmt c.get.result.now) n) c.in-Entered.is c.in_ok-act.ensures.enters in
-    let kept = c.in_ok-act.ensures.keeps in
-    (omega (arith, spent, c.running.invariant.moves, c.decreases), (within, (inside.served, (kept.sound, (c.act.ensures.few,
-    (omega (arith, c.requires.room, c.running.invariant.keeps.within.room, kept.within.room, c.act.ensures.more, c.running.invariant.more),
-    HasRoom-inside (length c.running.work.locals.items) (length c.act.new.work.locals.items) c.get.result.now _ c.in-Entered.inner.now (HasRoom-at g.N.Nv (program_of c.args.program.now) c.args.level c.args.block.now c.args.tx.now c.args.work.now c.running.keep c.running.at c.running.tx c.running.work c.running.invariant c.get.result.now c.get.ensures) c.act.ensures.grown inside))))))
+    let kept = c.in_ok-act.ensures.keeps in (
+      omega (arith, spent, c.running.invariant.moves, c.decreases),
+      (
+        within,
+        (
+          inside.served,
+          (
+            kept.sound,
+            (
+              c.act.ensures.few,
+              (
+                omega (arith, c.requires.room, c.running.invariant.keeps.within.room, kept.within.room, c.act.ensures.more, c.running.invariant.more),
+                HasRoom-inside (length c.running.work.locals.items) (length c.act.new.work.locals.items) c.get.result.now _ c.in-Entered.inner.now (HasRoom-at g.N.Nv (program_of c.args.program.now) c.args.level c.args.block.now c.args.tx.now c.args.work.now c.running.keep c.running.at c.running.tx c.running.work c.running.invariant c.get.result.now c.get.ensures) c.act.ensures.grown inside,
+              ),
+            ),
+          ),
+        ),
+      ),
+    )
 
 pub running-preserved : goal.running-preserved
 running-preserved g t c =
