@@ -1,5 +1,5 @@
 // One boot.
-ghost use Rattle.std.specs.Prelude.{◌≡◌, ◌⊎◌, ◌+◌, ◌*◌, ◌<◌, ◌≤◌, ℕ, IfOk, IfErr, IsTrue, MatchResult, Some};
+ghost use Rattle.std.specs.Prelude.{◌≡◌, ◌⊎◌, ◌+◌, ◌-◌, ◌*◌, ◌<◌, ◌≤◌, ℕ, IfOk, IfErr, IsTrue, MatchResult, Some};
 ghost use Rattle.nv_memory.specs.Budget.{IsShort};
 ghost use Rattle.undo_journal.specs.Undo.{IsAtRest};
 ghost use Rattle.thread_tree.specs.Program.{program_of};
@@ -9,7 +9,7 @@ ghost use Rattle.replay_list.specs.Stands.{KernelStands};
 ghost use Rattle.served_program.specs.Served.{is_served};
 ghost use Rattle.kernel_boots.specs.Boots.{uncut, IsUnderWay, IsSpent};
 
-use crate::working::work;
+use crate::working::{Stopped, work};
 use boot_recovery::recover;
 use kernel_model::soundness;
 use nv_memory::Nv;
@@ -39,6 +39,7 @@ pub fn boot<N: Nv, L: Ledger>(
     ensures at_rest { IfOk result (λ next. IsAtRest (N.words next.idle)) }
     ensures under_way { IfErr result (λ dark. IsUnderWay (program_of program.now) steps (N.words dark)) }
     ensures cause { IfErr result (λ dark. IsShort (N.left nv) (recovering (N.words nv)) ⊎ (counter_of (N.words dark) < steps)) }
+    ensures progress { IfErr result (λ dark. IsShort (N.left nv) (recovering (N.words nv) + 6400 * (counter_of (N.words dark) + 1 - counter_of (N.words nv)))) }
     ensures later { IfErr result (λ dark. counter_of (N.words nv) ≤ counter_of (N.words dark)) }
     ensures no_write_left { IfErr result (λ dark. N.left dark ≡ Some 0) }
     ensures to_come { MatchResult result (λ next. N.to_come next.idle ≡ N.to_come nv) (λ dark. N.to_come dark ≡ N.to_come nv) }
@@ -51,7 +52,10 @@ pub fn boot<N: Nv, L: Ledger>(
     soundness();
     standing_laws();
     match recover(nv, program, counter) {
-        Ok(kernel) => work(kernel, program, steps, counter),
+        Ok(kernel) => match work(kernel, program, steps, counter) {
+            Ok(kernel) => Ok(kernel),
+            Err(Stopped { dark, events: _ }) => Err(dark),
+        },
         Err(dark) => Err(dark),
     }
 }

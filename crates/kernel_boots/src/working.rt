@@ -1,5 +1,6 @@
 // Event after event.
-ghost use Rattle.std.specs.Prelude.{◌≡◌, ◌+◌, ◌*◌, ◌<◌, ◌≤◌, ℕ, IfOk, IfErr, IsTrue, MatchResult, Some};
+ghost use Rattle.std.specs.Prelude.{◌≡◌, ◌+◌, ◌-◌, ◌*◌, ◌<◌, ◌≤◌, ℕ, IfOk, IfErr, IsTrue, MatchResult, Some};
+ghost use Rattle.nv_memory.specs.Budget.{IsShort};
 ghost use Rattle.undo_journal.specs.Undo.{IsAtRest};
 ghost use Rattle.thread_tree.specs.Program.{program_of};
 ghost use Rattle.kernel_image.specs.Decoded.{image_in};
@@ -18,13 +19,27 @@ use step_counter::Steps;
 use thread_check::Checked;
 use undo_journal::Dark;
 
+/// The power was cut in the midst of an event: the dark device, and how many events are committed.
+#[must_use]
+pub struct Stopped<N: Nv> {
+    /// The device.
+    pub dark: Dark<N>,
+    /// The number of events.
+    pub events: u32,
+}
+
 /// Gives the kernel event after event, until so many steps are committed or the power is cut.
+///
+/// # Errors
+///
+/// The device without power, with the number of events that are committed: fewer writes were left than 6,400 for each
+/// event since and for the one that was cut.
 pub fn work<N: Nv, L: Ledger>(
     kernel: Kernel<N>,
     program: &Checked,
     steps: u32,
     counter: &mut Steps<L>,
-) -> Result<Kernel<N>, Dark<N>>
+) -> Result<Kernel<N>, Stopped<N>>
     requires at_rest { IsAtRest (N.words kernel.idle) }
     requires served { IsTrue (is_served program.now) }
     requires few { steps ≤ 1000000 }
@@ -32,15 +47,17 @@ pub fn work<N: Nv, L: Ledger>(
     requires within { (image_in (N.words kernel.idle)).events ≤ steps }
     ensures done { IfOk result (λ next. KernelStands (program_of program.now) (image_in (N.words next.idle)) next.contexts (uncut (program_of program.now) steps steps)) }
     ensures at_rest { IfOk result (λ next. IsAtRest (N.words next.idle)) }
-    ensures under_way { IfErr result (λ dark. IsUnderWay (program_of program.now) steps (N.words dark)) }
-    ensures some { IfErr result (λ dark. counter_of (N.words dark) < steps) }
-    ensures later { IfErr result (λ dark. (image_in (N.words kernel.idle)).events ≤ counter_of (N.words dark)) }
-    ensures no_write_left { IfErr result (λ dark. N.left dark ≡ Some 0) }
-    ensures spent { MatchResult result (λ next. IsSpent N.Nv kernel.idle next.idle) (IsSpent N.Nv kernel.idle) }
+    ensures under_way { IfErr result (λ stopped. IsUnderWay (program_of program.now) steps (N.words stopped.dark)) }
+    ensures count { IfErr result (λ stopped. stopped.events ≡ counter_of (N.words stopped.dark)) }
+    ensures some { IfErr result (λ stopped. stopped.events < steps) }
+    ensures later { IfErr result (λ stopped. (image_in (N.words kernel.idle)).events ≤ stopped.events) }
+    ensures no_write_left { IfErr result (λ stopped. N.left stopped.dark ≡ Some 0) }
+    ensures progress { IfErr result (λ stopped. IsShort (N.left kernel.idle) (6400 * (stopped.events + 1 - (image_in (N.words kernel.idle)).events))) }
+    ensures spent { MatchResult result (λ next. IsSpent N.Nv kernel.idle next.idle) (λ stopped. IsSpent N.Nv kernel.idle stopped.dark) }
     ensures counted { counter.old ≤ counter.new }
     ensures steps { MatchResult result
         (λ next. counter.new + 10000 * (image_in (N.words kernel.idle)).events ≤ counter.old + 10000 * steps)
-        (λ dark. counter.new + 10000 * (image_in (N.words kernel.idle)).events ≤ counter.old + 10000 * (counter_of (N.words dark) + 1)) }
+        (λ stopped. counter.new + 10000 * (image_in (N.words kernel.idle)).events ≤ counter.old + 10000 * (stopped.events + 1)) }
 {
     soundness();
     standing_laws();
@@ -52,7 +69,7 @@ pub fn work<N: Nv, L: Ledger>(
                 kernel = next;
                 events += 1;
             }
-            Err(dark) => return Err(dark),
+            Err(dark) => return Err(Stopped { dark, events }),
         }
     }
     Ok(kernel)
