@@ -1,37 +1,44 @@
 -- How a boot ends, from what its parts did.
-use Rattle.std.proofs.Common.{◌≡◌, ℕ, ◌<◌, ◌≤◌, ◌==◌, List, [], ◌∷◌, ◌++◌, Option, Some, None, Result, Ok, Err, true, false, refl, sym, ◌∙◌, ap, subst, arith, append-nil}
+use Rattle.std.proofs.Common.{◌≡◌, ◌≢◌, ℕ, ◌+◌, ◌-◌, ◌*◌, ◌<◌, ◌≤◌, ◌==◌, List, [], ◌∷◌, ◌++◌, Option, Some, None, Result, Ok, Err, Bool, true, false, refl, sym, ◌∙◌, ap, subst, arith, append-nil}
 use Rattle.std.specs.Result.{is_err}
+use Rattle.std.specs.Prelude.{slice_index}
 use Rattle.std.proofs.lemmas.Bool.Decides.{nat_tests}
+use Rattle.nv_memory.specs.Budget.{IsShort, spent}
 use Rattle.nv_memory.specs.declared.nv.Nv.{Ghosts}
 use Rattle.outer_world.specs.Written.{put_to, IsPart, Puts}
 use Rattle.outer_world.proofs.WrittenLaws.{part_of_first}
+use Rattle.thread_tree.specs.Program.{Program}
 use Rattle.kernel_model.specs.Dump.{text_of}
+use Rattle.kernel_model.specs.Kernel.{State}
 use Rattle.kernel_model.proofs.DumpLemmas.{text_of-append}
-use Rattle.undo_journal.specs.Undo.{entries, IsAtRest, IsJournalled, outside, durable}
-use Rattle.undo_journal.proofs.Undone.{durable-at_rest, IsJournalled-at_rest}
-use Rattle.nv_memory.specs.Budget.{IsShort, spent}
-use Rattle.intos_run.specs.Boots.{IsAtMost, IsLater}
-use Rattle.intos_run.specs.Ends.{MatchEnd, IsSpent, IsWorked, EndsDone, EndsCut, EndsFailed, IsDone, IsCut, IsFailed, live_lines}
-use Rattle.intos_run.specs.Kept.{shown, counter, IsKept, IsRecoverable}
+use Rattle.undo_journal.specs.Undo.{magic, entries, IsAtRest}
+use Rattle.kernel_image.specs.Decoded.{image_in}
+use Rattle.replay_list.specs.Kept.{counter_of, recovering, IsKept}
+use Rattle.replay_list.specs.Stands.{Stands}
+use Rattle.kernel_boots.specs.Boots.{uncut, DidNotRise, IsSpent, IsUnderWay}
+use Rattle.kernel_boots.proofs.UncutLaws.{at-most-then}
+use Rattle.boot_report.specs.Lines.{begin_lines, end_line, cut_line, dark_line}
+use Rattle.intos_run.specs.Boots.{IsLater}
+use Rattle.intos_run.specs.Ends.{MatchEnd, IsWorked, EndsDone, EndsCut, EndsFailed, IsDone, IsCut, IsFailed, live_lines}
 use Rattle.intos_run.specs.declared.boot.BootEnd.{BootEnd}
 use Rattle.intos_run.specs.declared.boot.BootEnd.TheVariants.{Done, Cut, SinkFailed}
-use Rattle.intos_run.specs.Image.{word_of, fixed_word, image_of, stored}
-use Rattle.intos_run.specs.Report.{is_formatted, recovering, goes_dark, begin_lines, start_lines, end_line, cut_line, dark_line, cut_boot, last_boot}
-use Rattle.intos_run.specs.Uncut.{State, after}
-use Rattle.intos_run.proofs.ImageLemmas.{by_test}
-use Rattle.intos_run.proofs.KeptLemmas.{shown-formatted, shown-counter}
-use Rattle.intos_run.proofs.AtMostLaws.{IsAtMost-then, IsAtMost-spent}
-use Rattle.intos_run.proofs.UncutLemmas.{after-events}
-use Rattle.intos_run.specs.Program.{Printer}
+use Rattle.intos_run.specs.Report.{is_formatted, goes_dark, start_lines, cut_boot, last_boot}
+use Rattle.intos_run.proofs.AtMostLaws.{DidNotRise-spent, short-spent}
 
-module _ (printer : Printer) (words idle : List ℕ) (same : outside idle ≡ shown printer words) where
-  -- a recovered device counts the events that the words showed
-  pub events_recovered : outside idle 1 ≡ counter words
-  events_recovered = ap (λ (f : ℕ → ℕ). f 1) same ∙ shown-counter printer words
+-- a test that stays in a goal, by its two answers
+by_test : (b : Bool) (P : Type 0) → (b ≡ true → P) → (b ≡ false → P) → P
+by_test true P yes_then no_then = yes_then refl
+by_test false P yes_then no_then = no_then refl
 
-  -- and stands for the uncut run
-  pub stands_recovered : IsKept printer words → outside idle ≡ stored (after printer (outside idle 1))
-  stands_recovered kept = same ∙ kept.shows ∙ ap (λ (n : ℕ). stored (after printer n)) (sym events_recovered)
+-- the laws of words at rest that stand for a kernel, and of the events that a kernel counts
+abbrev pub KeptAtRest : Type 0
+KeptAtRest = (p : Program) (words : List ℕ) (K : State) → IsAtRest words → Stands p (image_in words) K → IsKept p words K
+
+abbrev pub KeptEvents : Type 0
+KeptEvents = (p : Program) (words : List ℕ) (K : State) → IsKept p words K → counter_of words ≡ K.events
+
+abbrev pub Counts : Type 0
+Counts = (p : Program) (steps n : ℕ) → n ≤ steps → (uncut p steps n).events ≡ n
 
 -- a failed write wrote a part of its text, and another one the whole
 pub part_failed : {T E : Type 0} (r : Result T E) (old new : Option (List ℕ)) (text : List ℕ) → is_err r ≡ true → Puts r old new text → IsPart old new text
@@ -42,45 +49,46 @@ pub whole_put : {T E : Type 0} (r : Result T E) (old new : Option (List ℕ)) (t
 whole_put (Ok value) old new text fine puts = puts
 whole_put (Err error) old new text fine puts = absurd (let failed : true ≡ false = fine in cc)
 
-pub stored-events : (state : State) → stored state 1 ≡ state.events
-unfolding word_of fixed_word image_of
-stored-events state = refl
+module _ (at_rest_kept : KeptAtRest) (kept_events : KeptEvents) (counts : Counts) (p : Program) (steps : ℕ) (words : List ℕ) (at_rest : IsAtRest words) where
+  -- words at rest that stand for the uncut run after n events count n
+  pub counted_at_rest : (n : ℕ) → n ≤ steps → Stands p (image_in words) (uncut p steps n) → counter_of words ≡ n
+  counted_at_rest n within stands = kept_events p words (uncut p steps n) (at_rest_kept p words (uncut p steps n) at_rest stands) ∙ counts p steps n within
 
--- the words of the uncut run after k events count k
-pub count_of : (printer : Printer) (k : ℕ) (words : ℕ → ℕ) → words ≡ stored (after printer k) → words 1 ≡ k
-count_of printer k words same = ap (λ (f : ℕ → ℕ). f 1) same ∙ stored-events (after printer k) ∙ after-events printer k
+  -- and a run goes on from them
+  pub under_way_at_rest : (n : ℕ) → n ≤ steps → Stands p (image_in words) (uncut p steps n) → IsUnderWay p steps words
+  under_way_at_rest n within stands =
+      let count = counted_at_rest n within stands in
+      record {
+        kept = subst (λ (m : ℕ). IsKept p words (uncut p steps m)) (sym count) (at_rest_kept p words (uncut p steps n) at_rest stands);
+        within = omega (arith, count, within);
+      }
 
-pub worked : (printer : Printer) (steps n k : ℕ) (words : List ℕ) → IsJournalled words → durable words ≡ stored (after printer k) → n ≤ k → k ≤ steps → IsWorked printer steps n words
-worked printer steps n k words journalled same later within =
-    let count = count_of printer k (durable words) same in
+-- a recovery that was cut kept what the words were kept for
+pub later_lost : KeptEvents → Counts → (p : Program) (steps : ℕ) (before left : List ℕ) → IsUnderWay p steps before → IsKept p left (uncut p steps (counter_of before)) → IsLater p steps before left
+later_lost kept_events counts p steps before left under_way kept =
+    let count : counter_of left ≡ counter_of before = kept_events p left (uncut p steps (counter_of before)) kept ∙ counts p steps (counter_of before) under_way.within in
     record {
-      journalled = journalled;
-      shows = same ∙ ap (λ (m : ℕ). stored (after printer m)) (sym count);
+      under_way = record { kept = subst (λ (n : ℕ). IsKept p left (uncut p steps n)) (sym count) kept; within = omega (arith, count, under_way.within) };
       later = omega (arith, count);
-      within = omega (arith, count);
     }
 
-pub worked_at_rest : (printer : Printer) (steps n k : ℕ) (words : List ℕ) → IsAtRest words → outside words ≡ stored (after printer k) → n ≤ k → k ≤ steps → IsWorked printer steps n words
-worked_at_rest printer steps n k words at_rest same later within =
-    worked printer steps n k words (IsJournalled-at_rest words at_rest) (durable-at_rest words at_rest ∙ same) later within
-
-module _ (printer : Printer) (steps number undone n : ℕ) where
+module _ (p : Program) (steps number undone n : ℕ) where
   -- the lines of a boot that came to the last event
-  pub live-end : (m : ℕ) → m ≡ steps → text_of (begin_lines number printer.name (after printer n) undone) ++ ((end_line number steps ++ 10 ∷ []) ++ []) ≡ text_of (live_lines printer steps number undone n m)
+  pub live-end : (m : ℕ) → m ≡ steps → text_of (begin_lines number undone p (uncut p steps n)) ++ ((end_line number steps ++ 10 ∷ []) ++ []) ≡ text_of (live_lines p steps number undone n m)
   unfolding live_lines
   live-end m all =
       let test : (m == steps) ≡ true = grind (arith, nat_tests) in
-      rw test (sym (text_of-append (begin_lines number printer.name (after printer n) undone) (end_line number steps ∷ [])))
+      rw test (sym (text_of-append (begin_lines number undone p (uncut p steps n)) (end_line number steps ∷ [])))
 
   -- and of one that didn't
-  pub live-cut : (m : ℕ) → m < steps → text_of (begin_lines number printer.name (after printer n) undone) ++ ((cut_line number m ++ 10 ∷ []) ++ []) ≡ text_of (live_lines printer steps number undone n m)
+  pub live-cut : (m : ℕ) → m < steps → text_of (begin_lines number undone p (uncut p steps n)) ++ ((cut_line number m ++ 10 ∷ []) ++ []) ≡ text_of (live_lines p steps number undone n m)
   unfolding live_lines
   live-cut m some =
       let test : (m == steps) ≡ false = grind (arith, nat_tests) in
-      rw test (sym (text_of-append (begin_lines number printer.name (after printer n) undone) (cut_line number m ∷ [])))
+      rw test (sym (text_of-append (begin_lines number undone p (uncut p steps n)) (cut_line number m ∷ [])))
 
   -- a part of the first lines is a part of all of them
-  pub live-begun : (m : ℕ) (old new : Option (List ℕ)) → IsPart old new (text_of (begin_lines number printer.name (after printer n) undone)) → IsPart old new (text_of (live_lines printer steps number undone n m))
+  pub live-begun : (m : ℕ) (old new : Option (List ℕ)) → IsPart old new (text_of (begin_lines number undone p (uncut p steps n))) → IsPart old new (text_of (live_lines p steps number undone n m))
   unfolding live_lines
   live-begun m old new part = rw text_of-append (part_of_first old new _ _ part)
 
@@ -88,6 +96,12 @@ pub MatchEnd-weaker : {N : Type 0} (end : BootEnd N) {P Q R P' Q' R' : N → Typ
 MatchEnd-weaker (Done nv) p q r h = p nv h
 MatchEnd-weaker (Cut nv) p q r h = q nv h
 MatchEnd-weaker (SinkFailed nv) p q r h = r nv h
+
+-- what holds of each end of a boot holds of a boot that ended so
+pub MatchEnd-each : {N : Type 0} (end : BootEnd N) {P Q R : N → Type 0} → ((nv : N) → P nv) → ((nv : N) → Q nv) → ((nv : N) → R nv) → MatchEnd end P Q R
+MatchEnd-each (Done nv) p q r = p nv
+MatchEnd-each (Cut nv) p q r = q nv
+MatchEnd-each (SinkFailed nv) p q r = r nv
 
 -- whether a boot goes dark, as its recovery tells it
 pub goes_dark-short : (budget : Option ℕ) (words : List ℕ) → IsShort budget (recovering words) → goes_dark budget words ≡ true
@@ -98,134 +112,115 @@ pub goes_dark-enough : (budget : Option ℕ) (words : List ℕ) → (IsShort bud
 goes_dark-enough None words enough = refl
 goes_dark-enough (Some budget) words enough = grind (arith, nat_tests)
 
--- what a boot left, as the words show it
-pub IsLater-worked : (printer : Printer) (steps : ℕ) (before left : List ℕ) → IsWorked printer steps (counter before) left → IsLater printer steps before left
-IsLater-worked printer steps before left w =
-    let shows = shown-formatted printer left w.journalled.formatted in
-    let count : counter left ≡ durable left 1 = sym (shown-counter printer left) ∙ ap (λ (f : ℕ → ℕ). f 1) shows in
-    record {
-      kept = record {
-        shows = shows ∙ w.shows ∙ ap (λ (m : ℕ). stored (after printer m)) (sym count);
-        recoverable = record { journalled = λ _. w.journalled; blank = λ not_formatted. absurd (not_formatted w.journalled.formatted) };
-      };
-      later = omega (arith, w.later, count);
-      within = omega (arith, w.within, count);
-    }
+-- fewer writes than some are fewer than those and more
+pub short-more : (budget : Option ℕ) (n more : ℕ) → IsShort budget n → IsShort budget (n + more)
+short-more None n more short = absurd short
+short-more (Some budget) n more short = omega (arith, short)
 
-pub counter-worked : (printer : Printer) (steps n : ℕ) (left : List ℕ) → IsWorked printer steps n left → durable left 1 ≡ counter left
-counter-worked printer steps n left w = sym (ap (λ (f : ℕ → ℕ). f 1) (shown-formatted printer left w.journalled.formatted)) ∙ shown-counter printer left
-
-module _ (printer : Printer) (steps number : ℕ) (budget : Option ℕ) (before left : List ℕ) where
-  pub lines_done : (m : ℕ) → m ≡ steps → live_lines printer steps number (entries before) (counter before) m ≡ start_lines printer number before ++ end_line number steps ∷ []
+module _ (p : Program) (steps number : ℕ) (budget : Option ℕ) (before left : List ℕ) where
+  pub lines_done : (m : ℕ) → m ≡ steps → live_lines p steps number (entries before) (counter_of before) m ≡ start_lines p steps number before ++ end_line number steps ∷ []
   unfolding live_lines
   lines_done m all = let test : (m == steps) ≡ true = grind (arith, nat_tests) in rw test
 
-  pub lines_cut : (m : ℕ) → goes_dark budget before ≡ false → m ≡ counter left → m < steps → live_lines printer steps number (entries before) (counter before) m ≡ cut_boot printer number budget before left
+  pub lines_cut : goes_dark budget before ≡ false → counter_of left < steps → live_lines p steps number (entries before) (counter_of before) (counter_of left) ≡ cut_boot p steps number budget before left
   unfolding live_lines cut_boot
-  lines_cut m enough count some =
-      let test : (m == steps) ≡ false = grind (arith, nat_tests) in
-      rw (test, enough, count)
+  lines_cut enough some =
+      let test : (counter_of left == steps) ≡ false = grind (arith, nat_tests) in
+      rw (test, enough)
 
-  pub lines_part : (m : ℕ) (old new : Option (List ℕ)) → goes_dark budget before ≡ false → is_formatted left ≡ true → m ≡ counter left → m ≤ steps
-      → IsPart old new (text_of (live_lines printer steps number (entries before) (counter before) m)) → IsPart old new (text_of (last_boot printer steps number budget before left))
+  pub lines_part : (old new : Option (List ℕ)) → goes_dark budget before ≡ false → (counter_of left ≡ steps → slice_index left 0 ≡ magic) → counter_of left ≤ steps
+      → IsPart old new (text_of (live_lines p steps number (entries before) (counter_of before) (counter_of left))) → IsPart old new (text_of (last_boot p steps number budget before left))
   unfolding last_boot
-  lines_part m old new enough formatted count within part = by_test (counter left == steps) _
+  lines_part old new enough formatted within part = by_test (counter_of left == steps) _
       (λ all.
-      let is : m ≡ steps = grind (arith, nat_tests) in
-      rw (enough, formatted, all) (rw text_of-append
-      (part_of_first old new _ _ (subst (λ (lines : List (List ℕ)). IsPart old new (text_of lines)) (lines_done m is) part))))
+      let is : counter_of left ≡ steps = grind (arith, nat_tests) in
+      let magic_there = formatted is in
+      let stands : is_formatted left ≡ true = grind (arith, nat_tests) in
+      rw (enough, stands, all) (rw text_of-append
+      (part_of_first old new _ _ (subst (λ (lines : List (List ℕ)). IsPart old new (text_of lines)) (lines_done _ is) part))))
       (λ some.
-      let less : m < steps = grind (arith, nat_tests) in
-      rw (enough, formatted, some) (subst (λ (lines : List (List ℕ)). IsPart old new (text_of lines)) (lines_cut m enough count less) part))
+      let less : counter_of left < steps = grind (arith, nat_tests) in
+      by_test (is_formatted left) _
+      (λ there. rw (enough, there, some) (subst (λ (lines : List (List ℕ)). IsPart old new (text_of lines)) (lines_cut enough less) part))
+      (λ blank. rw (enough, blank) (subst (λ (lines : List (List ℕ)). IsPart old new (text_of lines)) (lines_cut enough less) part)))
 
-module _ {N : Type 0} (g : Ghosts N) (printer : Printer) (steps number undone : ℕ) (nv idle : N) (old new : Option (List ℕ))
-    (is_shown : outside (g.words idle) ≡ shown printer (g.words nv)) (is_undone : undone ≡ entries (g.words nv)) (enough : goes_dark (g.left nv) (g.words nv) ≡ false)
+module _ {N : Type 0} (g : Ghosts N) (p : Program) (steps number undone n : ℕ) (nv idle : N) (old new : Option (List ℕ))
+    (is_counter : n ≡ counter_of (g.words nv)) (is_undone : undone ≡ entries (g.words nv)) (enough : goes_dark (g.left nv) (g.words nv) ≡ false)
     (left : g.left idle ≡ spent (g.left nv) (recovering (g.words nv))) (to_come : g.to_come idle ≡ g.to_come nv) (ends : g.ends idle ≡ g.ends nv) where
   -- what was spent behind the recovery was spent in the boot
   spent_since : (after_it : N) → IsSpent g idle after_it → IsSpent g nv after_it
   spent_since after_it s = record {
-    left = IsAtMost-then _ _ _ (subst (IsAtMost (g.left nv)) (sym left) (IsAtMost-spent (recovering (g.words nv)) (g.left nv))) s.left;
+    left = at-most-then _ _ _ (subst (DidNotRise (g.left nv)) (sym left) (DidNotRise-spent (recovering (g.words nv)) (g.left nv))) s.left;
     to_come = s.to_come ∙ to_come;
     ends = s.ends ∙ ends;
   }
 
-  is_counter : outside (g.words idle) 1 ≡ counter (g.words nv)
-  is_counter = ap (λ (f : ℕ → ℕ). f 1) is_shown ∙ shown-counter printer (g.words nv)
-
-  worked_since : (words : List ℕ) → IsWorked printer steps (outside (g.words idle) 1) words → IsWorked printer steps (counter (g.words nv)) words
-  worked_since words w = subst (λ (n : ℕ). IsWorked printer steps n words) is_counter w
+  later_since : (words : List ℕ) → IsWorked p steps n words → IsLater p steps (g.words nv) words
+  later_since words w = record { under_way = w.under_way; later = omega (arith, w.later, is_counter) }
 
   -- the lines behind the recovery, by the words before the boot
-  lines_since : (m : ℕ) → live_lines printer steps number undone (outside (g.words idle) 1) m ≡ live_lines printer steps number (entries (g.words nv)) (counter (g.words nv)) m
-  lines_since m = ap (λ (u : ℕ). live_lines printer steps number u (outside (g.words idle) 1) m) is_undone
-      ∙ ap (λ (n : ℕ). live_lines printer steps number (entries (g.words nv)) n m) is_counter
+  lines_since : (m : ℕ) → live_lines p steps number undone n m ≡ live_lines p steps number (entries (g.words nv)) (counter_of (g.words nv)) m
+  lines_since m = ap (λ (u : ℕ). live_lines p steps number u n m) is_undone
+      ∙ ap (λ (k : ℕ). live_lines p steps number (entries (g.words nv)) k m) is_counter
 
-  pub done_since : (end : N) → EndsDone g printer steps number undone idle old new end → IsDone g printer steps number nv old new end
-  done_since end e =
-      let w = worked_since (g.words end) e.worked in
-      let count = counter-worked printer steps _ (g.words end) e.worked in
-      record {
-        live = enough;
-        images = IsLater-worked printer steps (g.words nv) (g.words end) w;
-        all = sym count ∙ e.all;
-        at_rest = e.at_rest;
-        spent = spent_since end e.spent;
-        text = e.text ∙ ap (λ (lines : List (List ℕ)). put_to old (text_of lines)) (lines_since _ ∙ lines_done printer steps number (g.left nv) (g.words nv) (g.words end) _ e.all);
-      }
+  pub done_since : (end : N) → EndsDone g p steps number undone n idle old new end → IsDone g p steps number nv old new end
+  done_since end e = record {
+    live = enough;
+    images = later_since (g.words end) e.worked;
+    all = e.all;
+    at_rest = e.at_rest;
+    stands = e.stands;
+    spent = spent_since end e.spent;
+    text = e.text ∙ ap (λ (lines : List (List ℕ)). put_to old (text_of lines)) (lines_since _ ∙ lines_done p steps number (g.left nv) (g.words nv) (g.words end) _ e.all);
+  }
 
-  pub cut_since : (end : N) → EndsCut g printer steps number undone idle old new end → IsCut g printer steps number nv old new end
-  cut_since end e =
-      let w = worked_since (g.words end) e.worked in
-      let count = counter-worked printer steps _ (g.words end) e.worked in
-      record {
-        boot = record { images = IsLater-worked printer steps (g.words nv) (g.words end) w; cause = λ _. omega (arith, e.some, count) };
-        dark = e.dark;
-        spent = spent_since end e.spent;
-        text = e.text ∙ ap (λ (lines : List (List ℕ)). put_to old (text_of lines)) (lines_since _ ∙ lines_cut printer steps number (g.left nv) (g.words nv) (g.words end) _ enough count e.some);
-      }
+  progress_since : (end : N) → EndsCut g p steps number undone n idle old new end → IsShort (g.left nv) (recovering (g.words nv) + 6400 * (counter_of (g.words end) + 1 - counter_of (g.words nv)))
+  progress_since end e = subst (λ (k : ℕ). IsShort (g.left nv) (recovering (g.words nv) + 6400 * (counter_of (g.words end) + 1 - k))) is_counter
+      (short-spent (recovering (g.words nv)) (6400 * (counter_of (g.words end) + 1 - n)) (g.left nv) (subst (λ (b : Option ℕ). IsShort b (6400 * (counter_of (g.words end) + 1 - n))) left e.progress))
 
-  pub failed_since : (end : N) → EndsFailed g printer steps number undone idle old new end → IsFailed g printer steps number nv old new end
-  failed_since end e =
-      let w = worked_since (g.words end) e.worked in
-      let count = counter-worked printer steps _ (g.words end) e.worked in
-      let formatted : is_formatted (g.words end) ≡ true = grind (arith, nat_tests, w.journalled.formatted) in
-      record {
-        images = IsLater-worked printer steps (g.words nv) (g.words end) w;
-        spent = spent_since end e.spent;
-        text = lines_part printer steps number (g.left nv) (g.words nv) (g.words end) _ old new enough formatted count w.within
-            (subst (λ (lines : List (List ℕ)). IsPart old new (text_of lines)) (lines_since _) e.text);
-      }
+  pub cut_since : (end : N) → EndsCut g p steps number undone n idle old new end → IsCut g p steps number nv old new end
+  cut_since end e = record {
+    boot = record { images = later_since (g.words end) e.worked; cause = λ _. e.some; progress = progress_since end e };
+    dark = e.dark;
+    spent = spent_since end e.spent;
+    text = e.text ∙ ap (λ (lines : List (List ℕ)). put_to old (text_of lines)) (lines_since _ ∙ lines_cut p steps number (g.left nv) (g.words nv) (g.words end) enough e.some);
+  }
 
-module _ {N : Type 0} (g : Ghosts N) (printer : Printer) (steps number : ℕ) (nv dark : N) (old new : Option (List ℕ))
-    (kept : IsKept printer (g.words nv)) (within : counter (g.words nv) ≤ steps) (lost : goes_dark (g.left nv) (g.words nv) ≡ true)
-    (is_shown : shown printer (g.words dark) ≡ shown printer (g.words nv)) (recoverable : IsRecoverable (g.words dark)) (same : is_formatted (g.words dark) ≡ is_formatted (g.words nv))
-    (spends : IsSpent g nv dark) where
-  -- a recovery that was cut keeps what the words show
-  later_dark : IsLater printer steps (g.words nv) (g.words dark)
-  later_dark =
-      let count : counter (g.words dark) ≡ counter (g.words nv) = sym (shown-counter printer (g.words dark)) ∙ ap (λ (f : ℕ → ℕ). f 1) is_shown ∙ shown-counter printer (g.words nv) in
-      record {
-        kept = record { shows = is_shown ∙ kept.shows ∙ ap (λ (n : ℕ). stored (after printer n)) (sym count); recoverable = recoverable };
-        later = omega (arith, count);
-        within = omega (arith, count, within);
-      }
+  pub failed_since : (end : N) → EndsFailed g p steps number undone n idle old new end → IsFailed g p steps number nv old new end
+  failed_since end e = record {
+    images = later_since (g.words end) e.worked;
+    spent = spent_since end e.spent;
+    text = lines_part p steps number (g.left nv) (g.words nv) (g.words end) old new enough e.formatted e.worked.under_way.within
+        (subst (λ (lines : List (List ℕ)). IsPart old new (text_of lines)) (lines_since _) e.text);
+  }
 
-  lines_dark : dark_line number (is_formatted (g.words nv)) ++ 10 ∷ [] ≡ text_of (cut_boot printer number (g.left nv) (g.words nv) (g.words dark))
+module _ {N : Type 0} (g : Ghosts N) (p : Program) (steps number : ℕ) (nv dark : N) (old new : Option (List ℕ))
+    (short : IsShort (g.left nv) (recovering (g.words nv))) (images : IsLater p steps (g.words nv) (g.words dark))
+    (same : is_formatted (g.words dark) ≡ is_formatted (g.words nv)) (spends : IsSpent g nv dark) where
+  lost : goes_dark (g.left nv) (g.words nv) ≡ true
+  lost = goes_dark-short (g.left nv) (g.words nv) short
+
+  lines_dark : dark_line number (is_formatted (g.words nv)) ++ 10 ∷ [] ≡ text_of (cut_boot p steps number (g.left nv) (g.words nv) (g.words dark))
   unfolding cut_boot
   lines_dark = rw (lost, same) (sym (append-nil _))
 
-  pub cut_dark : g.left dark ≡ Some 0 → new ≡ put_to old (dark_line number (is_formatted (g.words nv)) ++ 10 ∷ []) → IsCut g printer steps number nv old new dark
+  -- a recovery that was cut
+  pub cut_dark : g.left dark ≡ Some 0 → new ≡ put_to old (dark_line number (is_formatted (g.words nv)) ++ 10 ∷ []) → IsCut g p steps number nv old new dark
   cut_dark none text = record {
-    boot = record { images = later_dark; cause = λ live. absurd (let both : true ≡ false = sym lost ∙ live in cc) };
+    boot = record {
+      images = images;
+      cause = λ live. absurd (let both : true ≡ false = sym lost ∙ live in cc);
+      progress = short-more (g.left nv) (recovering (g.words nv)) _ short;
+    };
     dark = none;
     spent = spends;
     text = text ∙ ap (put_to old) lines_dark;
   }
 
-  pub failed_dark : IsPart old new (dark_line number (is_formatted (g.words nv)) ++ 10 ∷ []) → IsFailed g printer steps number nv old new dark
+  pub failed_dark : IsPart old new (dark_line number (is_formatted (g.words nv)) ++ 10 ∷ []) → IsFailed g p steps number nv old new dark
   unfolding last_boot
   failed_dark part = record {
-    images = later_dark;
+    images = images;
     spent = spends;
     text = rw lost (subst (IsPart old new) lines_dark part);
   }

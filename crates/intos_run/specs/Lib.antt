@@ -1,12 +1,8 @@
 pub mod Boots
 pub mod Command
 pub mod Ends
-pub mod Image
-pub mod Kept
 pub mod Program
 pub mod Refusals
 pub mod Report
 pub mod Runs
-pub mod Shown
-pub mod Uncut
 pub mod Top

@@ -1,5 +1,5 @@
 -- Why a run isn't begun.
-use Rattle.std.specs.Prelude.{◌≡◌, ◌⊎◌, Err, ℕ, ◌<◌, ◌≤◌, ◌++◌, [], ◌∷◌, List, length, Option, Some, None, IfSome, codes}
+use Rattle.std.specs.Prelude.{◌≡◌, ◌⊎◌, Err, ℕ, ◌<◌, ◌≤◌, ◌++◌, [], ◌∷◌, List, length, false, Option, Some, IfSome, codes}
 use Rattle.std.specs.Fmt.{decimal}
 use Rattle.outer_world.specs.Causes.{Rose, RoseBy}
 use Rattle.outer_world.specs.Written.{put_to, IsPart}
@@ -16,7 +16,7 @@ use Rattle.thread_check.specs.declared.fault.Kind.TheVariants as kind
 use Rattle.thread_check.specs.Faults.{fault_of, IsTold}
 use Rattle.accepted_program.specs.Accepted.{IsSpelling, IsAccepted}
 use Rattle.intos_run.specs.Command.{IsCommand}
-use Rattle.intos_run.specs.Program.{Printer, served}
+use Rattle.served_program.specs.Served.{is_served}
 use Rattle.intos_run.specs.declared.fault.Fault.{Fault}
 use Rattle.intos_run.specs.declared.fault.Fault.TheVariants as fault
 use Rattle.intos_run.specs.declared.refusal.Refusal.{Refusal}
@@ -105,14 +105,7 @@ IsFaulty text place f =
 
 -- an accepted program that isn't served yet
 abbrev pub IsNotYet : List ℕ → Type 0
-IsNotYet text = (tree : Tree) × IsAccepted text tree × (served tree ≡ None)
-
--- the text has at most 65,536 bytes and is accepted, and its program is a thread that prints
-pub record IsProgram (text : List ℕ) (printer : Printer) : Type 0 where
-  pub short : length text ≤ 65536
-  pub tree : Tree
-  pub accepted : IsAccepted text tree
-  pub is_served : served tree ≡ Some printer
+IsNotYet text = (tree : Tree) × IsAccepted text tree × (is_served tree ≡ false)
 
 -- the words are no command
 abbrev pub IsUndefined : List (List ℕ) → Type 0

@@ -1,27 +1,32 @@
 // One boot: recovery, the boot's lines, and event after event until the last one or a cut.
-ghost use Rattle.std.specs.Prelude.{◌≡◌, ◌+◌, ◌<◌, ◌≤◌, [], ◌∷◌, ◌++◌, List, ℕ, length, Some, IfOk, IfErr, MatchResult};
-ghost use Rattle.outer_world.specs.Causes.{HasCause};
-ghost use Rattle.outer_world.specs.Written.{put_to, IsPart, Puts};
-ghost use Rattle.kernel_model.specs.Dump.{text_of};
-ghost use Rattle.undo_journal.specs.Undo.{entries, IsAtRest, IsJournalled, durable, outside};
-ghost use Rattle.intos_run.specs.Boots.{IsAtMost};
-ghost use Rattle.intos_run.specs.Ends.{MatchEnd, HasEndCause, EndsDone, EndsCut, EndsFailed, IsDone, IsCut, IsFailed};
-ghost use Rattle.intos_run.specs.Image.{stored};
-ghost use Rattle.intos_run.specs.Kept.{IsKept, counter as counter_of};
-ghost use Rattle.intos_run.specs.Program.{IsPrinter};
-ghost use Rattle.intos_run.specs.Report.{recovering, dark_line, start_line, thread_line, begin_lines};
-ghost use Rattle.intos_run.specs.Uncut.{State, IsBounded, after};
+ghost use Rattle.std.specs.Prelude.{◌≡◌, ◌+◌, ◌-◌, ◌*◌, ◌<◌, ◌≤◌, [], ◌∷◌, ◌++◌, IsTrue, List, ℕ, Some};
+ghost use Rattle.outer_world.specs.Written.{put_to, IsPart};
+ghost use Rattle.thread_tree.specs.Program.{program_of};
+ghost use Rattle.undo_journal.specs.Undo.{entries, IsAtRest};
+ghost use Rattle.kernel_image.specs.Decoded.{image_in};
+ghost use Rattle.replay_list.specs.Kept.{counter_of};
+ghost use Rattle.replay_list.specs.Stands.{KernelStands};
+ghost use Rattle.served_program.specs.Served.{is_served};
+ghost use Rattle.kernel_boots.specs.Boots.{uncut, IsUnderWay};
+ghost use Rattle.boot_report.specs.Lines.{dark_line};
+ghost use Rattle.intos_run.specs.Ends.{MatchEnd, HasEndCause, BootSteps, EndsDone, EndsCut, EndsFailed, IsDone, IsCut, IsFailed};
 
-use crate::event::event;
-use crate::layout::{COUNTER, JOURNAL_COUNT, MAGIC_WORD, READY, RECORDS_USED, ROW_STATE};
-use crate::printer::Printer;
-use crate::recovery::recover;
-use crate::report_lines::{put_cut, put_dark, put_end, put_start, put_thread};
+use boot_recovery::recover;
+use boot_report::{put_begin, put_cut, put_dark, put_end};
+use kernel_boots::{Stopped, beginning, work};
 use nv_memory::Nv;
-use outer_world::{Sink, SinkFault};
+use outer_world::Sink;
+use replay_list::{Kernel, standing_laws};
 use std::sync::ledger::Ledger;
 use step_counter::Steps;
-use undo_journal::{Dark, Idle, MAGIC, Words};
+use thread_check::Checked;
+use undo_journal::{Dark, MAGIC};
+
+/// The word that is `MAGIC` on a formatted device.
+const MAGIC_WORD: u32 = 0;
+
+/// The word that counts the entries of the journal.
+const JOURNAL_COUNT: u32 = 4;
 
 /// How a boot ended.
 pub enum BootEnd<N: Nv> {
@@ -33,119 +38,51 @@ pub enum BootEnd<N: Nv> {
     SinkFailed(N),
 }
 
-/// The power was cut in the midst of an event: the dark device, and how many events are committed.
-struct Stopped<N: Nv> {
-    dark: Dark<N>,
-    events: u32,
-}
-
-/// Writes where the run stands, and the line of the thread.
-#[tactic(auto, using(crate::proofs::LawSets::writing))]
-fn put_live<S: Sink>(
-    sink: &mut S,
-    number: u32,
-    name: &[u8],
-    events: u32,
-    undone: u32,
-    replayed: u32,
-) -> Result<(), SinkFault>
-    requires short { length name.now ≤ 24 }
-    ensures puts { Puts result (S.bytes sink.old) (S.bytes sink.new) (text_of (start_line number events undone replayed ∷ thread_line number name.now ∷ [])) }
-    ensures cause { HasCause (S.faults sink.old) (S.faults sink.new) result }
+/// The device of a kernel that has power, with its contexts let go.
+fn device<N: Nv>(kernel: Kernel<N>) -> N
+    ensures same { result ≡ kernel.idle }
 {
-    put_start(sink, number, events, undone, replayed)?;
-    put_thread(sink, number, name)?;
-    Ok(())
-}
-
-/// Writes the lines behind a finished recovery.
-fn put_begin<N: Nv, S: Sink>(
-    idle: &Idle<N>,
-    printer: &Printer,
-    sink: &mut S,
-    number: u32,
-    undone: u32,
-) -> Result<(), SinkFault>
-    ensures puts { (state : State) → outside (N.words idle.now) ≡ stored state
-        → Puts result (S.bytes sink.old) (S.bytes sink.new) (text_of (begin_lines number printer.now.name state undone)) }
-    ensures cause { HasCause (S.faults sink.old) (S.faults sink.new) result }
-{
-    let events = idle.word(COUNTER);
-    if idle.word(ROW_STATE) == READY {
-        return put_live(
-            sink,
-            number,
-            printer.name(),
-            events,
-            undone,
-            idle.word(RECORDS_USED) / 2,
-        );
-    }
-    put_start(sink, number, events, undone, 0)
-}
-
-/// Event after event, until so many are committed or the power is cut.
-fn work<N: Nv>(idle: Idle<N>, printer: &Printer, steps: u32) -> Result<Idle<N>, Stopped<N>>
-    requires at_rest { IsAtRest (N.words idle) }
-    requires within_limits { IsPrinter printer.now }
-    requires few { steps ≤ 1000000 }
-    requires stands { outside (N.words idle) ≡ stored (after printer.now (outside (N.words idle) 1)) }
-    requires within { outside (N.words idle) 1 ≤ steps }
-    ensures done { IfOk result (λ next. outside (N.words next) ≡ stored (after printer.now steps)) }
-    ensures at_rest { IfOk result (λ next. IsAtRest (N.words next)) }
-    ensures stopped { IfErr result (λ stopped. durable (N.words stopped.dark) ≡ stored (after printer.now stopped.events)) }
-    ensures some { IfErr result (λ stopped. stopped.events < steps) }
-    ensures later { IfErr result (λ stopped. outside (N.words idle) 1 ≤ stopped.events) }
-    ensures journalled { IfErr result (λ stopped. IsJournalled (N.words stopped.dark)) }
-    ensures dark { IfErr result (λ stopped. N.left stopped.dark ≡ Some 0) }
-    ensures left { MatchResult result (λ next. IsAtMost (N.left idle) (N.left next)) (λ stopped. IsAtMost (N.left idle) (N.left stopped.dark)) }
-    ensures to_come { MatchResult result (λ next. N.to_come next ≡ N.to_come idle) (λ stopped. N.to_come stopped.dark ≡ N.to_come idle) }
-    ensures ends { MatchResult result (λ next. N.ends next ≡ N.ends idle) (λ stopped. N.ends stopped.dark ≡ N.ends idle) }
-{
-    let mut idle = idle;
-    let mut events = idle.word(COUNTER);
-    while events < steps {
-        match event(idle, printer) {
-            Ok(next) => {
-                idle = next;
-                events += 1;
-            }
-            Err(dark) => return Err(Stopped { dark, events }),
-        }
-    }
-    Ok(idle)
+    let Kernel { idle, contexts: _ } = kernel;
+    idle.rest()
 }
 
 /// A boot behind its recovery: its lines, and event after event.
-#[tactic(auto, using(crate::proofs::LawSets::writing))]
-fn live<N: Nv, S: Sink>(
-    idle: Idle<N>,
+fn live<N: Nv, S: Sink, L: Ledger>(
+    kernel: Kernel<N>,
     number: u32,
     undone: u32,
-    printer: &Printer,
+    program: &Checked,
     steps: u32,
     sink: &mut S,
+    counter: &mut Steps<L>,
 ) -> BootEnd<N>
-    requires at_rest { IsAtRest (N.words idle) }
-    requires within_limits { IsPrinter printer.now }
+    requires at_rest { IsAtRest (N.words kernel.idle) }
+    requires served { IsTrue (is_served program.now) }
     requires few { steps ≤ 1000000 }
-    requires stands { outside (N.words idle) ≡ stored (after printer.now (outside (N.words idle) 1)) }
-    requires within { outside (N.words idle) 1 ≤ steps }
+    requires stands { KernelStands (program_of program.now) (image_in (N.words kernel.idle)) kernel.contexts (uncut (program_of program.now) steps (image_in (N.words kernel.idle)).events) }
+    requires within { (image_in (N.words kernel.idle)).events ≤ steps }
     ensures ends { MatchEnd result
-        (EndsDone N.Nv printer.now steps number undone idle (S.bytes sink.old) (S.bytes sink.new))
-        (EndsCut N.Nv printer.now steps number undone idle (S.bytes sink.old) (S.bytes sink.new))
-        (EndsFailed N.Nv printer.now steps number undone idle (S.bytes sink.old) (S.bytes sink.new)) }
+        (EndsDone N.Nv (program_of program.now) steps number undone (image_in (N.words kernel.idle)).events kernel.idle (S.bytes sink.old) (S.bytes sink.new))
+        (EndsCut N.Nv (program_of program.now) steps number undone (image_in (N.words kernel.idle)).events kernel.idle (S.bytes sink.old) (S.bytes sink.new))
+        (EndsFailed N.Nv (program_of program.now) steps number undone (image_in (N.words kernel.idle)).events kernel.idle (S.bytes sink.old) (S.bytes sink.new)) }
     ensures cause { HasEndCause result (S.faults sink.old) (S.faults sink.new) }
+    ensures counted { counter.old ≤ counter.new }
+    ensures steps { MatchEnd result
+        (λ nv. counter.new + 10000 * (image_in (N.words kernel.idle)).events ≤ counter.old + 10000 * (counter_of (N.words nv) + 1))
+        (λ nv. counter.new + 10000 * (image_in (N.words kernel.idle)).events ≤ counter.old + 10000 * (counter_of (N.words nv) + 1))
+        (λ nv. counter.new + 10000 * (image_in (N.words kernel.idle)).events ≤ counter.old + 10000 * (counter_of (N.words nv) + 1)) }
 {
-    if put_begin(&idle, printer, sink, number, undone).is_err() {
-        return BootEnd::SinkFailed(idle.rest());
+    standing_laws();
+    beginning();
+    if put_begin(&kernel, program, sink, number, undone).is_err() {
+        return BootEnd::SinkFailed(device(kernel));
     }
-    match work(idle, printer, steps) {
-        Ok(idle) => {
+    match work(kernel, program, steps, counter) {
+        Ok(kernel) => {
             if put_end(sink, number, steps).is_err() {
-                return BootEnd::SinkFailed(idle.rest());
+                return BootEnd::SinkFailed(device(kernel));
             }
-            BootEnd::Done(idle.rest())
+            BootEnd::Done(device(kernel))
         }
         Err(Stopped { dark, events }) => {
             if put_cut(sink, number, events).is_err() {
@@ -185,27 +122,31 @@ fn dark<N: Nv, S: Sink>(dark: Dark<N>, number: u32, formatted: bool, sink: &mut 
 pub fn boot<N: Nv, S: Sink, L: Ledger>(
     nv: N,
     number: u32,
-    printer: &Printer,
+    program: &Checked,
     steps: u32,
     sink: &mut S,
     counter: &mut Steps<L>,
 ) -> BootEnd<N>
-    requires kept { IsKept printer.now (N.words nv) }
-    requires within { counter_of (N.words nv) ≤ steps }
-    requires within_limits { IsPrinter printer.now }
+    requires under_way { IsUnderWay (program_of program.now) steps (N.words nv) }
+    requires served { IsTrue (is_served program.now) }
     requires few { steps ≤ 1000000 }
     ensures ends { MatchEnd result
-        (IsDone N.Nv printer.now steps number nv (S.bytes sink.old) (S.bytes sink.new))
-        (IsCut N.Nv printer.now steps number nv (S.bytes sink.old) (S.bytes sink.new))
-        (IsFailed N.Nv printer.now steps number nv (S.bytes sink.old) (S.bytes sink.new)) }
+        (IsDone N.Nv (program_of program.now) steps number nv (S.bytes sink.old) (S.bytes sink.new))
+        (IsCut N.Nv (program_of program.now) steps number nv (S.bytes sink.old) (S.bytes sink.new))
+        (IsFailed N.Nv (program_of program.now) steps number nv (S.bytes sink.old) (S.bytes sink.new)) }
     ensures cause { HasEndCause result (S.faults sink.old) (S.faults sink.new) }
     ensures counted { counter.old ≤ counter.new }
-    ensures steps { counter.new ≤ counter.old + recovering (N.words nv) }
+    ensures steps { MatchEnd result
+        (λ end. BootSteps (program_of program.now) steps counter.old counter.new (N.words nv) (N.words end))
+        (λ end. BootSteps (program_of program.now) steps counter.old counter.new (N.words nv) (N.words end))
+        (λ end. BootSteps (program_of program.now) steps counter.old counter.new (N.words nv) (N.words end)) }
 {
+    standing_laws();
+    beginning();
     let undone = entries_of(&nv);
     let formatted = nv.read(MAGIC_WORD) == MAGIC;
-    match recover(nv, printer, counter) {
-        Ok(idle) => live(idle, number, undone, printer, steps, sink),
+    match recover(nv, program, counter) {
+        Ok(kernel) => live(kernel, number, undone, program, steps, sink, counter),
         Err(lost) => dark(lost, number, formatted, sink),
     }
 }

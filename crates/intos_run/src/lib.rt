@@ -7,20 +7,9 @@
 mod boot;
 mod boots;
 mod command;
-mod console;
-mod dump;
-mod event;
 mod fault;
-mod formatting;
 mod job;
-mod layout;
-mod line;
-mod printer;
-mod recovery;
 mod refusal;
-mod report_lines;
-mod serving;
-mod thread;
 mod top;
 
 pub use top::{Ended, run};

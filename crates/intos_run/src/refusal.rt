@@ -5,7 +5,7 @@ ghost use Rattle.outer_world.specs.Written.{Puts};
 ghost use Rattle.intos_run.specs.Refusals.{status_of, line_of, kind_name, fault_text, faulty_line, refusal_of_text, refusal_of_check};
 
 use crate::fault::Fault;
-use crate::line::Line;
+use kernel_dump::Line;
 use outer_world::{Sink, SinkFault};
 use thread_check::{CheckFault, Kind};
 use thread_text::TextFault;

@@ -1,34 +1,40 @@
 // The top call: all that the program does.
-ghost use Rattle.std.specs.Prelude.{◌≡◌, ◌≢◌, ◌⊎◌, ◌<◌, ◌≤◌, ◌++◌, ℕ, List, [], ◌∷◌, length, map, string_bytes, false, Some, None, MatchResult, codes};
+ghost use Rattle.std.specs.Prelude.{◌≡◌, ◌≢◌, IsTrue, ◌⊎◌, ◌<◌, ◌≤◌, ◌++◌, ℕ, List, [], ◌∷◌, length, map, string_bytes, false, Some, None, MatchResult, codes};
 ghost use Rattle.nv_memory.specs.Blank.{blank_words};
 ghost use Rattle.outer_world.specs.Causes.{HasCause, Rose, RoseBy};
 ghost use Rattle.outer_world.specs.Written.{put_to, IsPart, Puts};
-ghost use Rattle.kernel_model.specs.Dump.{dump_lines, text_of};
-ghost use Rattle.undo_journal.specs.Undo.{IsAtRest, outside};
+ghost use Rattle.kernel_model.specs.Dump.{text_of};
+ghost use Rattle.undo_journal.specs.Undo.{IsAtRest};
+ghost use Rattle.thread_tree.specs.Program.{program_of};
+ghost use Rattle.kernel_image.specs.Decoded.{image_in};
+ghost use Rattle.replay_list.specs.Kept.{counter_of};
+ghost use Rattle.replay_list.specs.Stands.{Stands};
+ghost use Rattle.served_program.specs.Served.{is_served};
+ghost use Rattle.kernel_boots.specs.Boots.{uncut};
 ghost use Rattle.intos_run.specs.Command.{IsCommand};
-ghost use Rattle.intos_run.specs.Image.{stored};
-ghost use Rattle.intos_run.specs.Kept.{counter};
 ghost use Rattle.intos_run.specs.Refusals.{IsStatus, IsRefusal, IsUndefined, Tells, line_of, status_of, faulty_line};
-ghost use Rattle.intos_run.specs.Program.{IsPrinter};
-ghost use Rattle.intos_run.specs.Report.{report};
+ghost use Rattle.intos_run.specs.Report.{dump_after, report};
 ghost use Rattle.intos_run.specs.Runs.{StepsWithin, HasBudgets, HasImages, IsUntouched};
-ghost use Rattle.intos_run.specs.Shown.{names, visible};
 ghost use Rattle.intos_run.specs.Top.{Task, Asks, AreAccepted, IsRefusedBy};
-ghost use Rattle.intos_run.specs.Uncut.{State, IsBounded};
 ghost use Rattle.intos_run.specs.declared.fault.Fault.{Fault};
 ghost use Rattle.intos_run.specs.declared.refusal.Refusal.TheVariants.{NoMemory};
 ghost use Rattle.thread_tree.specs.declared.place.Place.{Place};
 
 use crate::boots::run_boots;
-use crate::dump::put_dump;
 use crate::job::{Job, read_job};
-use crate::printer::Printer;
 use crate::refusal::Refusal;
+use kept_alike::kept_alike;
+use kernel_boots::beginning;
+use kernel_dump::put_dump;
 use nv_memory::Nv;
 use outer_world::{Files, Sink};
+use same_runs::programs_alike;
+use served_program::served_laws;
+use served_runs::served_runs;
 use std::alloc::Global;
 use std::sync::ledger::Ledger;
 use step_counter::Steps;
+use thread_check::Checked;
 use undo_journal::settle;
 
 /// What a run left: the status with which the program ends, and the device.
@@ -53,30 +59,34 @@ fn refuse<N: Nv, S: Sink>(refusal: Refusal, sink: &mut S, nv: N) -> Ended<N>
     }
 }
 
-/// Writes the dump of a device at rest.
+/// Writes the dump of a device at rest on which so many events are committed, all of the run.
 ///
 /// # Errors
 ///
 /// The device, where the sink failed.
 fn dump<N: Nv, S: Sink, L: Ledger>(
     nv: N,
-    printer: &Printer,
+    program: &Checked,
+    events: u32,
     sink: &mut S,
     steps: &mut Steps<L>,
 ) -> Result<N, N>
     requires at_rest { IsAtRest (N.words nv) }
-    requires stands { (state : State) × (outside (N.words nv) ≡ stored state) × IsBounded state }
+    requires served { IsTrue (is_served program.now) }
+    requires stands { Stands (program_of program.now) (image_in (N.words nv)) (uncut (program_of program.now) events events) }
     ensures words { MatchResult result (λ same. N.words same ≡ N.words nv) (λ same. N.words same ≡ N.words nv) }
     ensures left { MatchResult result (λ same. N.left same ≡ N.left nv) (λ same. N.left same ≡ N.left nv) }
     ensures to_come { MatchResult result (λ same. N.to_come same ≡ N.to_come nv) (λ same. N.to_come same ≡ N.to_come nv) }
     ensures ends { MatchResult result (λ same. N.ends same ≡ N.ends nv) (λ same. N.ends same ≡ N.ends nv) }
-    ensures puts { (state : State) → outside (N.words nv) ≡ stored state → IsBounded state
-        → Puts result (S.bytes sink.old) (S.bytes sink.new) (text_of (dump_lines (names printer.now) (visible state))) }
+    ensures puts { Puts result (S.bytes sink.old) (S.bytes sink.new) (text_of (dump_after (program_of program.now) events events)) }
     ensures cause { HasCause (S.faults sink.old) (S.faults sink.new) result }
     ensures steps { steps.new ≡ steps.old }
 {
+    served_laws();
+    served_runs();
+    let _ = program.tree();
     match settle(nv, steps) {
-        Ok(idle) => match put_dump(&idle, printer, sink) {
+        Ok(idle) => match put_dump(&idle, program, sink) {
             Ok(()) => Ok(idle.rest()),
             Err(_) => Err(idle.rest()),
         },
@@ -96,27 +106,29 @@ fn run_job<N: Nv, S: Sink, L: Ledger>(
     requires mains { N.left nv ≡ None }
     requires none_to_come { N.to_come nv ≡ [] }
     requires no_ends { N.ends nv ≡ [] }
-    requires within_limits { IsPrinter job.now.printer }
+    requires served { IsTrue (is_served job.now.program) }
     requires few_steps { job.now.steps ≤ 1000000 }
     requires few_cuts { length job.now.cuts.items ≤ 1000 }
     ensures statuses { (result.status ≡ 0) ⊎ ((result.status ≡ 6) ⊎ (result.status ≡ 7)) }
     ensures budgets { result.status ≢ 7 → HasBudgets job.now.cuts.items (N.ends result.nv) (N.left result.nv) (N.to_come result.nv) }
-    ensures images { result.status ≢ 7 → HasImages job.now.printer job.now.steps job.now.cuts.items (N.words nv) (N.ends result.nv) (N.words result.nv) }
-    ensures complete { result.status ≡ 0 → counter (N.words result.nv) ≡ job.now.steps }
-    ensures text { result.status ≡ 0 → S.bytes sink.new ≡ put_to (S.bytes sink.old) (report job.now.printer job.now.steps job.now.cuts.items (N.words nv) (N.ends result.nv) (N.words result.nv)) }
-    ensures part { result.status ≡ 6 → IsPart (S.bytes sink.old) (S.bytes sink.new) (report job.now.printer job.now.steps job.now.cuts.items (N.words nv) (N.ends result.nv) (N.words result.nv)) }
+    ensures images { result.status ≢ 7 → HasImages (program_of job.now.program) job.now.steps job.now.cuts.items (N.words nv) (N.ends result.nv) (N.words result.nv) }
+    ensures complete { result.status ≡ 0 → counter_of (N.words result.nv) ≡ job.now.steps }
+    ensures text { result.status ≡ 0 → S.bytes sink.new ≡ put_to (S.bytes sink.old) (report (program_of job.now.program) job.now.steps job.now.cuts.items (N.words nv) (N.ends result.nv) (N.words result.nv)) }
+    ensures part { result.status ≡ 6 → IsPart (S.bytes sink.old) (S.bytes sink.new) (report (program_of job.now.program) job.now.steps job.now.cuts.items (N.words nv) (N.ends result.nv) (N.words result.nv)) }
     ensures broken { result.status ≡ 6 → Rose (S.faults sink.old) (S.faults sink.new) }
     ensures faults { result.status ≡ 0 → S.faults sink.new ≡ S.faults sink.old }
     ensures memory { result.status ≡ 7 → Tells (line_of NoMemory) (S.bytes sink.old) (S.bytes sink.new) (S.faults sink.old) (S.faults sink.new) }
     ensures untouched { result.status ≡ 7 → IsUntouched N.Nv nv result.nv }
-    ensures steps { StepsWithin steps.old steps.new (N.words nv) (N.ends result.nv) }
+    ensures steps { result.status ≢ 7 → StepsWithin (program_of job.now.program) job.now.steps steps.old steps.new (N.words nv) (N.ends result.nv) (N.words result.nv) }
+    ensures uncounted { result.status ≡ 7 → steps.new ≡ steps.old }
 {
+    beginning();
     let mut nv = nv;
     if nv.plan(alloc, &job.cuts).is_err() {
         return refuse(Refusal::NoMemory, sink, nv);
     }
-    match run_boots(nv, &job.printer, job.steps, sink, steps) {
-        Ok(done) => match dump(done, &job.printer, sink, steps) {
+    match run_boots(nv, &job.program, job.steps, sink, steps) {
+        Ok(done) => match dump(done, &job.program, job.steps, sink, steps) {
             Ok(nv) => Ended { status: 0, nv },
             Err(nv) => Ended { status: 6, nv },
         },
@@ -148,14 +160,14 @@ pub fn run<F: Files, S: Sink, N: Nv, L: Ledger>(
 
     // Every image and the last words are kept for the uncut run, and the events that they count never fall.
     ensures images { result.status ≡ 0 ⊎ result.status ≡ 6 → (task : Task) → Asks (map string_bytes words.now.items) (F.contents files.old) task
-        → HasImages task.printer task.steps task.cuts (N.words nv) (N.ends result.nv) (N.words result.nv) }
+        → HasImages task.program task.steps task.cuts (N.words nv) (N.ends result.nv) (N.words result.nv) }
 
     // With status 0 every event is committed, and the bytes put are the report; with status 6 a prefix of it.
-    ensures complete { result.status ≡ 0 → (task : Task) → Asks (map string_bytes words.now.items) (F.contents files.old) task → counter (N.words result.nv) ≡ task.steps }
+    ensures complete { result.status ≡ 0 → (task : Task) → Asks (map string_bytes words.now.items) (F.contents files.old) task → counter_of (N.words result.nv) ≡ task.steps }
     ensures text { result.status ≡ 0 → (task : Task) → Asks (map string_bytes words.now.items) (F.contents files.old) task
-        → S.bytes sink.new ≡ put_to (S.bytes sink.old) (report task.printer task.steps task.cuts (N.words nv) (N.ends result.nv) (N.words result.nv)) }
+        → S.bytes sink.new ≡ put_to (S.bytes sink.old) (report task.program task.steps task.cuts (N.words nv) (N.ends result.nv) (N.words result.nv)) }
     ensures text_so_far { result.status ≡ 6 → (task : Task) → Asks (map string_bytes words.now.items) (F.contents files.old) task
-        → IsPart (S.bytes sink.old) (S.bytes sink.new) (report task.printer task.steps task.cuts (N.words nv) (N.ends result.nv) (N.words result.nv)) }
+        → IsPart (S.bytes sink.old) (S.bytes sink.new) (report task.program task.steps task.cuts (N.words nv) (N.ends result.nv) (N.words result.nv)) }
 
     // Each status has its cause, and a run that isn't begun puts its line and nothing else.
     ensures statuses { IsStatus result.status }
@@ -179,9 +191,13 @@ pub fn run<F: Files, S: Sink, N: Nv, L: Ledger>(
     ensures no_fault { result.status ≡ 0 → (F.faults files.new ≡ F.faults files.old) × (S.faults sink.new ≡ S.faults sink.old) }
     ensures untouched { IsRefusal result.status → IsUntouched N.Nv nv result.nv }
 
-    // The steps are at most as many as the writes that the recoveries of its boots need.
-    ensures steps { StepsWithin steps.old steps.new (N.words nv) (N.ends result.nv) }
+    // The steps are at most those that the recoveries of its boots may take and 10,000 for each event and each boot.
+    ensures steps { result.status ≡ 0 ⊎ result.status ≡ 6 → (task : Task) → Asks (map string_bytes words.now.items) (F.contents files.old) task
+        → StepsWithin task.program task.steps steps.old steps.new (N.words nv) (N.ends result.nv) (N.words result.nv) }
+    ensures uncounted { IsRefusal result.status → steps.new ≡ steps.old }
 {
+    programs_alike();
+    kept_alike();
     match read_job(alloc, words, files) {
         Ok(job) => run_job(alloc, &job, sink, nv, steps),
         Err(refusal) => refuse(refusal, sink, nv),

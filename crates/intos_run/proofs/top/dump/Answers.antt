@@ -1,13 +1,27 @@
-use Rattle.std.proofs.Common.{◌∙◌, ap}
-use Rattle.undo_journal.specs.Undo.{outside}
+use Rattle.std.proofs.Common.{◌≡◌, List, ◌∙◌, ap, sym, subst}
+use Rattle.outer_world.specs.Written.{Puts, IsPart, put_to}
+use Rattle.thread_tree.specs.Program.{program_of}
 use Rattle.undo_journal.proofs.Undone.{undone-at_rest}
+use Rattle.kernel_image.specs.Decoded.{image_in}
+use Rattle.kernel_image.specs.Shown.{shown}
+use Rattle.kernel_boots.specs.Boots.{uncut}
+use Rattle.intos_run.proofs.TopLemmas.{nobody_timed, dump_shown}
 use Rattle.intos_run.proofs.top.dump.Goals as goal
 
 pub put_dump-requires : goal.put_dump-requires
 put_dump-requires g c =
-    let p = c.requires.stands in
+    let tree = c.args.program.now in
+    let p = program_of tree in
+    let events = c.args.events in
+    let stands = c.requires.stands in
     let same = c.in-Ok.ensures.settled ∙ undone-at_rest _ c.requires.at_rest in
-    record { stands = (p.0, ap outside same ∙ p.1, p.2) }
+    let shows = ap (λ (words : List _). shown p (image_in words)) same ∙ stands.shows in
+    record {
+      sound = (uncut p events events, stands.sound, shows);
+      no_queues = c.served_laws.ensures.no_queues tree c.requires.served;
+      no_semaphores = c.served_laws.ensures.no_semaphores tree c.requires.served;
+      untimed = nobody_timed p _ (uncut p events events) shows (c.served_runs.ensures.untimed tree events events c.tree.ensures.accepted c.requires.served);
+    }
 
 pub returns-in-Ok-put_dump-clause-words : goal.returns-in-Ok-put_dump-clause-words
 returns-in-Ok-put_dump-clause-words g c = ap g.N.Nv.words c.rest.ensures.same ∙ c.in-Ok.ensures.settled ∙ undone-at_rest _ c.requires.at_rest
@@ -16,11 +30,13 @@ pub returns-in-Err-put_dump-clause-words : goal.returns-in-Err-put_dump-clause-w
 returns-in-Err-put_dump-clause-words g c = ap g.N.Nv.words c.rest-in-Err-put_dump.ensures.same ∙ c.in-Ok.ensures.settled ∙ undone-at_rest _ c.requires.at_rest
 
 pub returns-in-Ok-put_dump-clause-puts : goal.returns-in-Ok-put_dump-clause-puts
-returns-in-Ok-put_dump-clause-puts g c state stands bounded =
+returns-in-Ok-put_dump-clause-puts g c =
     let same = c.in-Ok.ensures.settled ∙ undone-at_rest _ c.requires.at_rest in
-    c.in-Ok-put_dump.ensures.puts state (ap outside same ∙ stands) bounded
+    let p = program_of c.args.program.now in
+    c.in-Ok-put_dump.ensures.puts ∙ ap (put_to (g.S.Sink.bytes c.args.sink.now)) (dump_shown p _ _ (uncut p c.args.events c.args.events) same c.requires.stands.shows)
 
 pub returns-in-Err-put_dump-clause-puts : goal.returns-in-Err-put_dump-clause-puts
-returns-in-Err-put_dump-clause-puts g c state stands bounded =
+returns-in-Err-put_dump-clause-puts g c =
     let same = c.in-Ok.ensures.settled ∙ undone-at_rest _ c.requires.at_rest in
-    c.in-Err-put_dump.ensures.puts state (ap outside same ∙ stands) bounded
+    let p = program_of c.args.program.now in
+    subst (IsPart (g.S.Sink.bytes c.args.sink.now) (g.S.Sink.bytes c.put_dump.new.sink)) (dump_shown p _ _ (uncut p c.args.events c.args.events) same c.requires.stands.shows) c.in-Err-put_dump.ensures.puts

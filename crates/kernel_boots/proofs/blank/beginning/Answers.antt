@@ -5,7 +5,7 @@ use Rattle.kernel_model.specs.declared.event.Event.TheVariants.{Step}
 use Rattle.kernel_model.specs.Run.{initial}
 use Rattle.replay_list.specs.Kept.{IsKept, counter_of}
 use Rattle.kernel_boots.specs.Boots.{uncut}
-use Rattle.kernel_boots.proofs.UncutLaws.{starts-at}
+use Rattle.kernel_boots.proofs.UncutLaws.{starts-at, uncut-events}
 use Rattle.kernel_boots.proofs.blank.beginning.Goals as goal
 
 pub returns : goal.returns
@@ -17,4 +17,5 @@ returns c = record {
         kept = subst (λ n. IsKept p words (uncut p steps n)) (sym none) (subst (IsKept p words) (sym (c.soundness.ensures.begins p (replicate steps Step))) kept);
         within = omega (arith, none);
       };
+  counts = λ p steps n within. uncut-events c.soundness.ensures.run_counted p steps n within;
 }
