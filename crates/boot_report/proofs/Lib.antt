@@ -1,0 +1,4 @@
+pub mod Beginning
+pub mod LawSets
+pub mod Locals
+pub mod Rows

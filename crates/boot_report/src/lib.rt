@@ -2,7 +2,9 @@
 #![tactic(auto)]
 
 mod ending;
+mod passing;
 mod starting;
+mod threads;
 
 pub use ending::{put_cut, put_dark, put_end};
 pub use starting::put_begin;

@@ -12,6 +12,8 @@ mod sort;
 
 pub use dump::put_dump;
 pub use line::Line;
+pub use names::{bytes_of, name_at};
+pub use sort::Sort;
 
 #[cfg(test)]
 mod tests;

@@ -60,7 +60,7 @@ pub(crate) fn nth_of<'a>(decls: &'a List<Decl>, sort: Sort, number: u32) -> Opti
 
 /// The bytes of a name, and none where the program has no such name.
 #[tactic(auto, using(crate::proofs::LawSets::name_laws))]
-pub(crate) fn bytes_of(program: &Checked, name: u32) -> &[u8]
+pub fn bytes_of(program: &Checked, name: u32) -> &[u8]
     ensures bytes { result.now ≡ bytes_in (program_of program.now) name }
     ensures short { length result.now ≤ 24 }
 {
@@ -74,7 +74,7 @@ pub(crate) fn bytes_of(program: &Checked, name: u32) -> &[u8]
 
 /// The name of what has this number among those of a sort, and no bytes where nothing has it.
 #[tactic(auto, using(crate::proofs::LawSets::name_laws))]
-pub(crate) fn name_at(program: &Checked, sort: Sort, number: u32) -> &[u8]
+pub fn name_at(program: &Checked, sort: Sort, number: u32) -> &[u8]
     ensures name { result.now ≡ name_in (list_of sort (names_of (program_of program.now))) number }
     ensures short { length result.now ≤ 24 }
 {
