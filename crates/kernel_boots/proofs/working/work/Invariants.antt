@@ -1,6 +1,7 @@
 -- The kernel stands for the uncut run after as many events as are committed.
 use Rattle.std.proofs.Common.{◌≡◌, ◌+◌, ◌-◌, ◌*◌, ◌≤◌}
 use Rattle.undo_journal.specs.Undo.{IsAtRest}
+use Rattle.undo_journal.specs.Lending.{FellWithin}
 use Rattle.thread_tree.specs.Program.{program_of}
 use Rattle.kernel_image.specs.Decoded.{image_in}
 use Rattle.replay_list.specs.Stands.{KernelStands}
@@ -14,6 +15,7 @@ invariant-loop-events g l = record {
   later : (image_in (g.N.Nv.words l.initial.kernel.idle)).events ≤ l.events;
   within : l.events ≤ l.steps;
   spent : IsSpent g.N.Nv l.initial.kernel.idle l.kernel.idle;
+  fell : FellWithin (6400 * (l.events - (image_in (g.N.Nv.words l.initial.kernel.idle)).events)) (g.N.Nv.left l.initial.kernel.idle) (g.N.Nv.left l.kernel.idle);
   counted : l.initial.counter ≤ l.counter;
   few : l.counter + 10000 * (image_in (g.N.Nv.words l.initial.kernel.idle)).events ≤ l.initial.counter + 10000 * l.events;
 }
