@@ -1,0 +1,5 @@
+pub mod RowLaws
+pub mod KeptLaws
+pub mod LineLaws
+pub mod ServedSame
+pub mod TreeLaws
