@@ -1,7 +1,10 @@
 -- What is left and told of a run of one program is left and told of the run of another that runs alike.
-use Rattle.std.proofs.Common.{◌≡◌, ℕ, ◌+◌, ◌*◌, ◌≤◌, List, [], ◌∷◌, ◌++◌, Option, Bool, true, false, if◌then◌else◌, length, drop, refl, sym, ◌∙◌, ap, subst, arith}
+use Rattle.std.proofs.Common.{◌≡◌, ℕ, ◌+◌, ◌*◌, ◌≤◌, List, [], ◌∷◌, ◌++◌, Option, None, Bool, true, false, if◌then◌else◌, length, drop, refl, sym, ◌∙◌, ap, subst, arith}
 use Rattle.nv_memory.specs.Budget.{first_budget, later_budgets}
-use Rattle.thread_tree.specs.Program.{Program}
+use Rattle.thread_tree.specs.declared.tree.Tree.{Tree}
+use Rattle.thread_tree.specs.Program.{Program, program_of}
+use Rattle.thread_check.specs.Faults.{fault_of}
+use Rattle.same_runs.specs.Bare.{bare_tree}
 use Rattle.kernel_model.specs.Dump.{text_of}
 use Rattle.replay_list.specs.Kept.{counter_of, recovery_steps}
 use Rattle.kernel_boots.specs.Boots.{uncut, IsUnderWay}
@@ -17,6 +20,28 @@ pub record AreAlike (p q : Program) (steps : ℕ) : Type 0 where
   pub begins : (n number undone : ℕ) → begin_lines number undone p (uncut p steps n) ≡ begin_lines number undone q (uncut q steps n)
   pub dump : (n : ℕ) → dump_after p steps n ≡ dump_after q steps n
   pub restoring : (n : ℕ) (words : List ℕ) → recovery_steps words (uncut p steps n) ≡ recovery_steps words (uncut q steps n)
+
+-- the laws of a tree and of the tree without pointers
+abbrev pub UnderWayAlike : Type 0
+UnderWayAlike = (t : Tree) (steps : ℕ) (words : List ℕ) → fault_of t ≡ None → steps ≤ 1000000 → IsUnderWay (program_of t) steps words → IsUnderWay (program_of (bare_tree t)) steps words
+
+abbrev pub BeginsAlike : Type 0
+BeginsAlike = (t : Tree) (steps n number undone : ℕ) → begin_lines number undone (program_of t) (uncut (program_of t) steps n) ≡ begin_lines number undone (program_of (bare_tree t)) (uncut (program_of (bare_tree t)) steps n)
+
+abbrev pub DumpAlike : Type 0
+DumpAlike = (t : Tree) (steps n : ℕ) → dump_after (program_of t) steps n ≡ dump_after (program_of (bare_tree t)) steps n
+
+abbrev pub RestoringAlike : Type 0
+RestoringAlike = (t : Tree) (steps n : ℕ) (words : List ℕ) → recovery_steps words (uncut (program_of t) steps n) ≡ recovery_steps words (uncut (program_of (bare_tree t)) steps n)
+
+-- the program of an accepted tree and that of the tree without pointers run alike
+pub alike_of : UnderWayAlike → BeginsAlike → DumpAlike → RestoringAlike → (t : Tree) (steps : ℕ) → fault_of t ≡ None → steps ≤ 1000000 → AreAlike (program_of t) (program_of (bare_tree t)) steps
+alike_of under_way begins dump restoring t steps accepted few = record {
+  under_way = λ words kept. under_way t steps words accepted few kept;
+  begins = λ n number undone. begins t steps n number undone;
+  dump = λ n. dump t steps n;
+  restoring = λ n words. restoring t steps n words;
+}
 
 module _ (p q : Program) (steps : ℕ) (alike : AreAlike p q steps) where
   later : (before left : List ℕ) → IsLater p steps before left → IsLater q steps before left

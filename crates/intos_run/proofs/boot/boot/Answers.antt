@@ -13,8 +13,8 @@ use Rattle.intos_run.proofs.BootLemmas.{MatchEnd-weaker, MatchEnd-each, goes_dar
 use Rattle.intos_run.proofs.AtMostLaws.{DidNotRise-short}
 use Rattle.intos_run.proofs.boot.boot.Goals as goal
 
-pub recover-requires-clause-kept : goal.recover-requires-clause-kept
-recover-requires-clause-kept g c =
+pub recover-requires : goal.recover-requires
+recover-requires g c =
     let p = program_of c.args.program.now in
     (uncut p c.args.steps (counter_of (g.N.Nv.words c.args.nv)), c.requires.under_way.kept)
 

@@ -1,15 +1,12 @@
-use Rattle.std.proofs.Common.{◌≡◌, ◌⊎◌, ℕ, ◌≤◌, List, None, inl, inr, refl, sym, subst, ◌∙◌, ap, arith}
+use Rattle.std.proofs.Common.{◌≡◌, ◌⊎◌, ℕ, inl, inr, refl, sym, subst, ◌∙◌, ap, arith}
 use Rattle.std.proofs.lemmas.Option.{IfSome_then}
 use Rattle.outer_world.specs.Written.{put_to, IsPart}
-use Rattle.thread_tree.specs.declared.tree.Tree.{Tree}
 use Rattle.thread_tree.specs.Program.{program_of}
-use Rattle.thread_check.specs.Faults.{fault_of}
 use Rattle.same_runs.specs.Bare.{bare_tree}
-use Rattle.kernel_model.specs.Dump.{text_of}
 use Rattle.replay_list.specs.Kept.{counter_of}
 use Rattle.intos_run.specs.Report.{report}
 use Rattle.intos_run.specs.Runs.{HasBudgets, HasImages, StepsWithin}
-use Rattle.intos_run.proofs.Alike.{AreAlike, images_alike, report_alike, steps_alike}
+use Rattle.intos_run.proofs.Alike.{alike_of, images_alike, report_alike, steps_alike}
 use Rattle.intos_run.proofs.TaskLemmas.{same_task, for_task, refused, refused_for_memory}
 use Rattle.intos_run.proofs.top.run.Goals as goal
 
@@ -28,14 +25,8 @@ pub returns-in-Ok-clause-images : goal.returns-in-Ok-clause-images
 returns-in-Ok-clause-images g c is task asks =
     let end = c.run_job.result in
     let tree = c.in-Ok.job.program in
-    let few = c.in-Ok.ensures.job.1.few_steps in
     let laws = c.kept_alike.ensures in
-    let alike : AreAlike (program_of tree) (program_of (bare_tree tree)) c.in-Ok.job.steps = record {
-      under_way = λ words. laws.under_way tree c.in-Ok.job.steps words c.in-Ok.ensures.accepted few;
-      begins = λ n number undone. laws.begins tree c.in-Ok.job.steps n number undone;
-      dump = λ n. laws.dump tree c.in-Ok.job.steps n;
-      restoring = λ n words. laws.restoring tree c.in-Ok.job.steps n words;
-    } in
+    let alike = alike_of laws.under_way laws.begins laws.dump laws.restoring tree c.in-Ok.job.steps c.in-Ok.ensures.accepted c.in-Ok.ensures.job.1.few_steps in
     for_task (λ p steps cuts. HasImages p steps cuts (g.N.Nv.words c.args.nv) (g.N.Nv.ends end.nv) (g.N.Nv.words end.nv)) _ _ _ task
     (same_task c.programs_alike.ensures.one_tree _ _ _ _ _ task c.in-Ok.ensures.job asks)
     (images_alike _ _ _ alike _ _ _ _ (c.run_job.ensures.images (begun end.status is)))
@@ -50,14 +41,8 @@ pub returns-in-Ok-clause-text : goal.returns-in-Ok-clause-text
 returns-in-Ok-clause-text g c is task asks =
     let end = c.run_job.result in
     let tree = c.in-Ok.job.program in
-    let few = c.in-Ok.ensures.job.1.few_steps in
     let laws = c.kept_alike.ensures in
-    let alike : AreAlike (program_of tree) (program_of (bare_tree tree)) c.in-Ok.job.steps = record {
-      under_way = λ words. laws.under_way tree c.in-Ok.job.steps words c.in-Ok.ensures.accepted few;
-      begins = λ n number undone. laws.begins tree c.in-Ok.job.steps n number undone;
-      dump = λ n. laws.dump tree c.in-Ok.job.steps n;
-      restoring = λ n words. laws.restoring tree c.in-Ok.job.steps n words;
-    } in
+    let alike = alike_of laws.under_way laws.begins laws.dump laws.restoring tree c.in-Ok.job.steps c.in-Ok.ensures.accepted c.in-Ok.ensures.job.1.few_steps in
     for_task (λ p steps cuts. g.S.Sink.bytes c.run_job.new.sink ≡ put_to (g.S.Sink.bytes c.args.sink.now) (report p steps cuts (g.N.Nv.words c.args.nv) (g.N.Nv.ends end.nv) (g.N.Nv.words end.nv))) _ _ _ task
     (same_task c.programs_alike.ensures.one_tree _ _ _ _ _ task c.in-Ok.ensures.job asks)
     (c.run_job.ensures.text is ∙ ap (put_to (g.S.Sink.bytes c.args.sink.now)) (report_alike _ _ _ alike _ _ _ _))
@@ -66,14 +51,8 @@ pub returns-in-Ok-clause-text_so_far : goal.returns-in-Ok-clause-text_so_far
 returns-in-Ok-clause-text_so_far g c is task asks =
     let end = c.run_job.result in
     let tree = c.in-Ok.job.program in
-    let few = c.in-Ok.ensures.job.1.few_steps in
     let laws = c.kept_alike.ensures in
-    let alike : AreAlike (program_of tree) (program_of (bare_tree tree)) c.in-Ok.job.steps = record {
-      under_way = λ words. laws.under_way tree c.in-Ok.job.steps words c.in-Ok.ensures.accepted few;
-      begins = λ n number undone. laws.begins tree c.in-Ok.job.steps n number undone;
-      dump = λ n. laws.dump tree c.in-Ok.job.steps n;
-      restoring = λ n words. laws.restoring tree c.in-Ok.job.steps n words;
-    } in
+    let alike = alike_of laws.under_way laws.begins laws.dump laws.restoring tree c.in-Ok.job.steps c.in-Ok.ensures.accepted c.in-Ok.ensures.job.1.few_steps in
     for_task (λ p steps cuts. IsPart (g.S.Sink.bytes c.args.sink.now) (g.S.Sink.bytes c.run_job.new.sink) (report p steps cuts (g.N.Nv.words c.args.nv) (g.N.Nv.ends end.nv) (g.N.Nv.words end.nv))) _ _ _ task
     (same_task c.programs_alike.ensures.one_tree _ _ _ _ _ task c.in-Ok.ensures.job asks)
     (subst (IsPart (g.S.Sink.bytes c.args.sink.now) (g.S.Sink.bytes c.run_job.new.sink)) (report_alike _ _ _ alike _ _ _ _) (c.run_job.ensures.part is))
@@ -82,14 +61,8 @@ pub returns-in-Ok-clause-steps : goal.returns-in-Ok-clause-steps
 returns-in-Ok-clause-steps g c is task asks =
     let end = c.run_job.result in
     let tree = c.in-Ok.job.program in
-    let few = c.in-Ok.ensures.job.1.few_steps in
     let laws = c.kept_alike.ensures in
-    let alike : AreAlike (program_of tree) (program_of (bare_tree tree)) c.in-Ok.job.steps = record {
-      under_way = λ words. laws.under_way tree c.in-Ok.job.steps words c.in-Ok.ensures.accepted few;
-      begins = λ n number undone. laws.begins tree c.in-Ok.job.steps n number undone;
-      dump = λ n. laws.dump tree c.in-Ok.job.steps n;
-      restoring = λ n words. laws.restoring tree c.in-Ok.job.steps n words;
-    } in
+    let alike = alike_of laws.under_way laws.begins laws.dump laws.restoring tree c.in-Ok.job.steps c.in-Ok.ensures.accepted c.in-Ok.ensures.job.1.few_steps in
     for_task (λ p steps cuts. StepsWithin p steps c.args.steps.now c.run_job.new.steps (g.N.Nv.words c.args.nv) (g.N.Nv.ends end.nv) (g.N.Nv.words end.nv)) _ _ _ task
     (same_task c.programs_alike.ensures.one_tree _ _ _ _ _ task c.in-Ok.ensures.job asks)
     (steps_alike _ _ _ alike _ _ _ _ _ (c.run_job.ensures.steps (begun end.status is)))
