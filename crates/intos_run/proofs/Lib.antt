@@ -3,6 +3,7 @@ pub mod AtMostLaws
 pub mod BootLemmas
 pub mod Commands
 pub mod LawSets
+pub mod Numbers
 pub mod ReportLemmas
 pub mod RunLemmas
 pub mod TaskLemmas

@@ -16,7 +16,7 @@ use Rattle.intos_run.proofs.boot.boot.Goals as goal
 pub recover-requires : goal.recover-requires
 recover-requires g c =
     let p = program_of c.args.program.now in
-    (uncut p c.args.steps (counter_of (g.N.Nv.words c.args.nv)), c.requires.under_way.kept)
+    record { kept = (uncut p c.args.steps (counter_of (g.N.Nv.words c.args.nv)), c.requires.under_way.kept) }
 
 pub live-requires-clause-stands : goal.live-requires-clause-stands
 live-requires-clause-stands g c =
