@@ -75,8 +75,8 @@ lines-numbered f number p t (row ∷ rows) same =
     let here : t + 0 ≡ t = omega arith in
     let first : f t ≡ row_lines number p t row = subst (λ (n : ℕ). f n ≡ row_lines number p n row) here (same 0 (omega arith)) in
     let rest = lines-numbered f number p (t + 1) rows (λ k low.
-        let next : t + suc k ≡ t + 1 + k = omega arith in
-        subst (λ (n : ℕ). f n ≡ row_lines number p n (slice_index_or rows k Free)) next (same (suc k) (omega (arith, low)))) in
+    let next : t + suc k ≡ t + 1 + k = omega arith in
+    subst (λ (n : ℕ). f n ≡ row_lines number p n (slice_index_or rows k Free)) next (same (suc k) (omega (arith, low)))) in
     ap (λ (lines : List (List ℕ)). lines ++ flat_map f (range_with_len (t + 1) (length rows))) first
     ∙ ap (λ (lines : List (List ℕ)). row_lines number p t row ++ lines) rest
 
