@@ -1,8 +1,7 @@
 -- The run of a served program by steps: all its live threads are ready, so that no tick wakes one.
-use Rattle.std.proofs.Common.{◌≡◌, ℕ, zero, suc, ◌+◌, ◌-◌, List, [], ◌∷◌, ◌++◌, length, map, take, replicate, filter_map, Option, Some, None, MatchOption, slice_get, option_map, refl, ap, ◌∙◌}
+use Rattle.std.proofs.Common.{◌≡◌, ℕ, zero, suc, ◌+◌, ◌-◌, List, [], ◌∷◌, length, map, take, replicate, filter_map, Option, Some, None, MatchOption, slice_get, option_map, refl, ap, ◌∙◌}
 use Rattle.std.specs.Prelude.{IsTrue, ⊤, nat_lt}
 use Rattle.std.specs.List.{AllByRecursion, cons_option, enumerate_from}
-use Rattle.kernel_model.specs.declared.event.Event.{Event}
 use Rattle.kernel_model.specs.declared.event.Event.TheVariants.{Step}
 use Rattle.kernel_model.specs.Kernel.{Activity, Thread, Row, State, thread_of}
 use Rattle.kernel_model.specs.Kernel.Activity.{Ready}
@@ -16,7 +15,7 @@ use Rattle.kernel_model.proofs.OrderLemmas.{threads_from}
 use Rattle.thread_tree.specs.declared.tree.Tree.{Tree}
 use Rattle.thread_tree.specs.Program.{Program, Template, Start, program_of}
 use Rattle.served_program.specs.Served.{is_served}
-use Rattle.served_program.proofs.DeclarationLaws.{IsServedTemplate, IsServedFunction, Declares, served_declares}
+use Rattle.served_program.proofs.DeclarationLaws.{IsServedTemplate, Declares, served_declares}
 use Rattle.served_program.proofs.LoopLaws.{both_all}
 use Rattle.served_program.proofs.MoveLaws.{things_served}
 use Rattle.served_runs.proofs.KernelLaws.{IsServedRow, AreServedRows, IsServedKernel, ready_thread, step_served}

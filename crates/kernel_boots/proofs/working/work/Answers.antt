@@ -67,4 +67,4 @@ returns-in-Err-clause-progress g c =
     let many = (image_in (g.N.Nv.words c.args.kernel.idle)).events in
     let same = c.loop-events.invariant in
     short-then (6400 * (n - many)) 6400 (6400 * (n + 1 - many)) (g.N.Nv.left c.args.kernel.idle) (g.N.Nv.left c.loop-events.kernel.idle)
-        same.fell c.in-Err.ensures.ends.short (omega (arith, same.later))
+    same.fell c.in-Err.ensures.ends.short (omega (arith, same.later))
