@@ -6,7 +6,6 @@ use Rattle.thread_tree.specs.Program.{Program}
 use Rattle.kernel_model.specs.Kernel.{State}
 use Rattle.kernel_model.specs.Sound.{IsSound}
 use Rattle.kernel_model.specs.Show.{visible}
-use Rattle.kernel_model.specs.Visible.{Object}
 use Rattle.kernel_image.specs.Decoded.{Decoded}
 use Rattle.kernel_image.specs.Shown.{shown}
 use Rattle.replay_list.specs.Kept.{IsSaved, IsBlank, IsKept, recovery_steps}
