@@ -84,7 +84,6 @@ fn dump<N: Nv, S: Sink, L: Ledger>(
 {
     served_laws();
     served_runs();
-    let _ = program.tree();
     match settle(nv, steps) {
         Ok(idle) => match put_dump(&idle, program, sink) {
             Ok(()) => Ok(idle.rest()),

@@ -20,7 +20,7 @@ put_dump-requires g c =
       sound = (uncut p events events, stands.sound, shows);
       no_queues = c.served_laws.ensures.no_queues tree c.requires.served;
       no_semaphores = c.served_laws.ensures.no_semaphores tree c.requires.served;
-      untimed = nobody_timed p _ (uncut p events events) shows (c.served_runs.ensures.untimed tree events events c.tree.ensures.accepted c.requires.served);
+      untimed = nobody_timed p _ (uncut p events events) shows (c.served_runs.ensures.untimed tree events events c.requires.served);
     }
 
 pub returns-in-Ok-put_dump-clause-words : goal.returns-in-Ok-put_dump-clause-words
