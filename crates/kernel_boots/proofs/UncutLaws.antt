@@ -1,8 +1,8 @@
 -- The uncut run, step after step.
-use Rattle.std.proofs.Common.{◌≡◌, ℕ, ◌+◌, ◌-◌, ◌*◌, ◌<◌, ◌≤◌, List, length, take, Option, Some, None, refl, ap, sym, subst, ◌∙◌, arith}
+use Rattle.std.proofs.Common.{◌≡◌, ℕ, ◌+◌, ◌<◌, ◌≤◌, List, length, take, Option, Some, None, refl, ap, sym, subst, ◌∙◌, arith}
 use Rattle.std.specs.Prelude.{replicate, slice_index_or, min}
 use Rattle.std.proofs.lemmas.List.{length-replicate, length-take-le, get_or-replicate}
-use Rattle.nv_memory.specs.Budget.{spent, IsShort}
+use Rattle.nv_memory.specs.Budget.{IsShort}
 use Rattle.undo_journal.specs.Lending.{FellWithin}
 use Rattle.thread_tree.specs.Program.{Program}
 use Rattle.kernel_model.specs.declared.event.Event.{Event}
@@ -51,11 +51,6 @@ pub at-most-same : (left : Option ℕ) → DidNotRise left left
 at-most-same None = tt
 at-most-same (Some left) = omega arith
 
--- nothing fell
-pub fell-none : (n : ℕ) (left : Option ℕ) → FellWithin n left left
-fell-none n None = tt
-fell-none n (Some left) = (omega arith, omega arith)
-
 -- the writes left fell by so many, and then by so many more
 pub fell-then : (many n total : ℕ) (first second third : Option ℕ) → FellWithin many first second → FellWithin n second third → many + n ≤ total → FellWithin total first third
 fell-then many n total None None None a b enough = tt
@@ -71,18 +66,3 @@ short-then many n total None None a short enough = short
 short-then many n total None (Some y) a short enough = a
 short-then many n total (Some x) None a short enough = absurd a
 short-then many n total (Some x) (Some y) a short enough = omega (arith, a.1, short, enough)
-
--- what is too little for less is so for more
-pub short-more : (n more : ℕ) (left : Option ℕ) → n ≤ more → IsShort left n → IsShort left more
-short-more n more None enough short = short
-short-more n more (Some left) enough short = omega (arith, short, enough)
-
--- so many were spent, and then they were too few
-pub short-spent : (many n : ℕ) (left : Option ℕ) → IsShort (spent left many) n → IsShort left (many + n)
-short-spent many n None short = short
-short-spent many n (Some left) short = omega (arith, short)
-
--- where fewer are left than wanted, none at the end is no rise
-pub dark-at-most : (n : ℕ) (first dark : Option ℕ) → IsShort first n → dark ≡ Some 0 → DidNotRise first dark
-dark-at-most n None dark short none = absurd short
-dark-at-most n (Some left) dark short none = subst (DidNotRise (Some left)) (sym none) (omega arith)

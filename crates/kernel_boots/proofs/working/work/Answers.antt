@@ -6,7 +6,7 @@ use Rattle.kernel_model.specs.Kernel.{State}
 use Rattle.replay_list.specs.Kept.{IsKept, counter_of}
 use Rattle.replay_list.specs.Stands.{KernelStands}
 use Rattle.kernel_boots.specs.Boots.{uncut}
-use Rattle.kernel_boots.proofs.UncutLaws.{uncut-next, uncut-events, fell-at-most, at-most-then, fell-then, short-then, dark-at-most}
+use Rattle.kernel_boots.proofs.UncutLaws.{uncut-next, uncut-events, fell-at-most, at-most-then, fell-then, short-then}
 use Rattle.kernel_boots.proofs.working.work.Goals as goal
 
 pub loop-events-preserved : goal.loop-events-preserved
