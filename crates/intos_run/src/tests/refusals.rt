@@ -10,6 +10,9 @@ const USAGE: &str = "usage: intos run PROGRAM STEPS [CUT ..]\n";
 /// The line of a program that can't be read.
 const UNREAD: &str = "cannot read program\n";
 
+/// The line of a program that is right, but isn't served.
+const NOT_YET: &str = "program NotYet\n";
+
 /// Runs in a world where the run is refused, and again where the sink fails at the line of that: the status stays.
 fn check_refusal(
     rt: &impl Abort,
@@ -48,7 +51,7 @@ fn refusals(rt: HostRuntime) -> Result<(), Fail> {
         (World::of("run p 2 -1", TWO_PRINTS), 2, USAGE),
         (World::of("run missing 2", TWO_PRINTS), 3, UNREAD),
         (unread, 3, UNREAD),
-        (World::of("run p 2", " "), 4, "program NotYet\n"),
+        (World::of("run p 2", "queue q[1];"), 4, NOT_YET),
     ];
     for (world, status, told) in cases {
         check_refusal(&rt, rt.alloc(), world, status, told)?;
@@ -58,7 +61,7 @@ fn refusals(rt: HostRuntime) -> Result<(), Fail> {
 
 #[test]
 fn refused_programs(rt: HostRuntime) -> Result<(), Fail> {
-    let cases: [(&[u8], &str); 12] = [
+    let cases: [(&[u8], &str); 11] = [
         (
             b"thread t() priority 1 { let a = 0; atomic { a = 1; } }",
             "program 1:45 NotAllowedHere\n",
@@ -91,10 +94,6 @@ fn refused_programs(rt: HostRuntime) -> Result<(), Fail> {
             b"fn f(a) { return a; } thread t() priority 1 { f(); }",
             "program 1:47 WrongCount\n",
         ),
-        (
-            b"fn f(a) { return a * 2; } thread t() priority 1 { let x = 0; x = f(4); print x; } start t();",
-            "program NotYet\n",
-        ),
     ];
     for (program, told) in cases {
         let world = World {
@@ -106,11 +105,88 @@ fn refused_programs(rt: HostRuntime) -> Result<(), Fail> {
     Ok(())
 }
 
-#[test]
-fn long_programs(rt: HostRuntime) -> Result<(), Fail> {
-    for (spaces, told) in [(65_536, "program NotYet\n"), (65_537, "program TooLong\n")] {
-        let program = " ".repeat(rt.alloc(), spaces)?;
-        check_refusal(&rt, rt.alloc(), World::of("run p 2", &program), 4, told)?;
+/// Runs each of these programs, none of which is served.
+fn check_not_yet(rt: &impl Abort, alloc: Global, programs: &[&str]) -> Result<(), Fail> {
+    for program in programs {
+        check_refusal(rt, alloc, World::of("run p 2", program), 4, NOT_YET)?;
     }
     Ok(())
+}
+
+#[test]
+fn declarations_not_yet(rt: HostRuntime) -> Result<(), Fail> {
+    let programs = [
+        "type T { a, b }",
+        "queue q[1];",
+        "queue q[1] input 3;",
+        "semaphore s = 0 max 1;",
+        "thread t(a) priority 1 { }",
+        "thread t(a) priority 1 { } start t(1);",
+        "thread t() priority 1 { } start t(); start t();",
+        "thread t() priority 1 { } thread u() priority 1 { } start t(); start u();",
+    ];
+    check_not_yet(&rt, rt.alloc(), &programs)
+}
+
+#[test]
+fn calls_not_yet(rt: HostRuntime) -> Result<(), Fail> {
+    let programs = [
+        "thread t() priority 1 { spawn t(); }",
+        "thread t() priority 1 { delete self; }",
+        "thread t() priority 1 { delete 1; }",
+        "thread t() priority 1 { setprio self, 2; }",
+        "thread t() priority 1 { getprio 0; }",
+        "thread t() priority 1 { yield; }",
+        "thread t() priority 1 { delay 1; }",
+        "thread t() priority 1 { now; }",
+        "queue q[1]; thread t() priority 1 { send q, 1, 0; }",
+        "queue q[1]; thread t() priority 1 { receive q, 0; }",
+        "queue q[1]; thread t() priority 1 { waiting q; }",
+        "semaphore s = 0 max 1; thread t() priority 1 { take s, 0; }",
+        "semaphore s = 0 max 1; thread t() priority 1 { give s; }",
+        "thread t() priority 1 { ploop { print \"a\"; } }",
+    ];
+    check_not_yet(&rt, rt.alloc(), &programs)
+}
+
+#[test]
+fn blocks_not_yet(rt: HostRuntime) -> Result<(), Fail> {
+    let programs = [
+        "type T { v } thread t() priority 1 { atomic { let x = new T; } }",
+        "type T { v } thread t() priority 1 { atomic { let x = 0; x = new T; } }",
+        "type T { v } thread t() priority 1 { atomic { free 2; } }",
+        "type T { v } thread t() priority 1 { atomic { let x = 2; x.T.v = 1; } }",
+        "type T { v } thread t() priority 1 { let k = 2; let x = 0; atomic -> k, x { give k.T.v; } }",
+        "type T { v } thread t() priority 1 { atomic { let x = 2; if !x.T.v { abort; } } }",
+    ];
+    check_not_yet(&rt, rt.alloc(), &programs)
+}
+
+#[test]
+fn unreached_not_yet(rt: HostRuntime) -> Result<(), Fail> {
+    let programs = [
+        "fn f() { now; }",
+        "fn f() { if 0 { while 0 { yield; } } }",
+        "fn f() { atomic { if 0 { } else { while 0 { free 0; } } } }",
+        "thread t() priority 1 { if 0 { } else { delay 0; } }",
+        "thread t() priority 1 { return; now; }",
+    ];
+    check_not_yet(&rt, rt.alloc(), &programs)
+}
+
+#[test]
+fn long_programs(rt: HostRuntime) -> Result<(), Fail> {
+    let longest = " ".repeat(rt.alloc(), 65_536)?;
+    let left = left_by(rt.alloc(), &World::of("run p 2", &longest))?;
+    let report = "boot 1 start at 0 undone 0 replayed 0\n\
+        boot 1 end at 2\n\
+        events 2\n\
+        ticks 0\n\
+        console 0\n";
+    assert_eq!(rt; left.status, 0);
+    assert_eq!(rt; left.sink.bytes(), report.as_bytes());
+
+    let too_long = " ".repeat(rt.alloc(), 65_537)?;
+    let world = World::of("run p 2", &too_long);
+    check_refusal(&rt, rt.alloc(), world, 4, "program TooLong\n")
 }

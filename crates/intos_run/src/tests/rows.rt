@@ -1,0 +1,350 @@
+// Worked rows: whole runs of programs with locals, functions and blocks, by all bytes that they write. The writes up to
+// each cut are counted by hand: formatting makes 16,384, a store 4, a commit 1, undoing e entries e + 1.
+use super::world::{World, left_by};
+use std::alloc::Global;
+use std::process::Abort;
+use std::test::Fail;
+
+/// A block that stores a word twice and aborts, and then one that gives.
+const BLOCKS: &str = "type T { v }\n\
+    object o: T;\n\
+    thread t() priority 1 {\n\
+    let ok = 9; let x = 9;\n\
+    atomic -> ok { o.v = 1; o.v = 2; abort; }\n\
+    print ok;\n\
+    atomic -> ok, x { o.v = 5; o.v = o.v + 1; give o.v; }\n\
+    print ok, \" \", x;\n\
+    }\n\
+    start t();\n";
+
+/// A block with 65 object operations, one more than it may make.
+const TOO_MANY_STORES: &str = "type T { v }\n\
+    object o: T;\n\
+    thread t() priority 1 { atomic { let i = 0; while i < 65 { o.v = i; i = i + 1; } } }\n\
+    start t();\n";
+
+/// A block with as many object operations as it may make.
+const MOST_STORES: &str = "type T { v }\n\
+    object o: T;\n\
+    thread t() priority 1 { atomic { let i = 0; while i < 64 { o.v = i; i = i + 1; } } }\n\
+    start t();\n";
+
+/// A block that stores a word and then never ends.
+const ENDLESS_BLOCK: &str = "type T { v }\n\
+    object o: T;\n\
+    thread t() priority 1 { atomic { o.v = 1; while 1 { } } }\n\
+    start t();\n";
+
+/// Prints in a block of an `if`, in a function, and behind both.
+const LOCALS: &str = "fn show(a, b) { let c = a + b; print c; return c; }\n\
+    thread t() priority 1 {\n\
+    let x = 3;\n\
+    if x { let y = 4; print \"in\"; x = show(x, y); print x; }\n\
+    print \"out\";\n\
+    }\n\
+    start t();\n";
+
+/// Three objects of two types, of which a block changes two by the third, and the second of two threads.
+const OBJECTS: &str = "type T { v }\n\
+    type U { w }\n\
+    object o: T;\n\
+    object p: U;\n\
+    object q: T;\n\
+    thread a() priority 1 { print \"a\"; }\n\
+    thread b() priority 3 {\n\
+    let ok = 0; let d = 0; let e = 0;\n\
+    atomic -> ok, d, e {\n\
+    o.v = 7; q.v = o.v * o.v;\n\
+    if p.w { abort; } else { p.w = q.v % 10; }\n\
+    give p.w, q.v;\n\
+    }\n\
+    print d, \"<\", e;\n\
+    return;\n\
+    }\n\
+    start b();\n";
+
+/// Runs a program with these words, and compares all that is written.
+fn check_row(
+    rt: &impl Abort,
+    alloc: Global,
+    line: &str,
+    program: &str,
+    report: &str,
+) -> Result<(), Fail> {
+    let left = left_by(alloc, &World::of(line, program))?;
+    assert_eq!(rt; left.status, 0, "{line}: {program}");
+    assert_eq!(rt; left.sink.bytes(), report.as_bytes(), "{line}: {program}");
+    Ok(())
+}
+
+/// Runs a program of thread `t` for so many steps on mains, and compares all that is written.
+fn check_dump(
+    rt: &impl Abort,
+    alloc: Global,
+    steps: u32,
+    program: &str,
+    dump: &str,
+) -> Result<(), Fail> {
+    let line = format!(in alloc; "run p {steps}")?;
+    let mut report = String::from_str(alloc, "boot 1 start at 0 undone 0 replayed 0\n")?;
+    report.push_str("boot 1 thread 0 t:\n")?;
+    report.push_str(&format!(in alloc; "boot 1 end at {steps}\nevents {steps}\nticks 0\n")?)?;
+    report.push_str(dump)?;
+    check_row(rt, alloc, &line, program, &report)
+}
+
+#[test]
+fn blocks(rt: HostRuntime) -> Result<(), Fail> {
+    let ready = "thread 0 t priority 1 ready\nlist ready 1: 0\n";
+    let cases = [
+        (4, BLOCKS, "object 2 T static v=6\nconsole 6\n| 0\n| 1 6\n"),
+        (3, BLOCKS, "object 2 T static v=6\nconsole 2\n| 0\n"),
+        (1, BLOCKS, "object 2 T static v=0\nconsole 0\n"),
+        (1, MOST_STORES, "object 2 T static v=63\nconsole 0\n"),
+    ];
+    for (steps, program, objects) in cases {
+        let mut dump = String::from_str(rt.alloc(), ready)?;
+        dump.push_str(objects)?;
+        check_dump(&rt, rt.alloc(), steps, program, &dump)?;
+    }
+    Ok(())
+}
+
+#[test]
+fn blocks_cut(rt: HostRuntime) -> Result<(), Fail> {
+    let report = "boot 1 start at 0 undone 0 replayed 0\n\
+        boot 1 thread 0 t:\n\
+        boot 1 cut at 3\n\
+        boot 2 start at 3 undone 4 replayed 3\n\
+        boot 2 thread 0 t: ok=1 x=6\n\
+        boot 2 end at 4\n\
+        events 4\n\
+        ticks 0\n\
+        thread 0 t priority 1 ready\n\
+        list ready 1: 0\n\
+        object 2 T static v=6\n\
+        console 6\n\
+        | 0\n\
+        | 1 6\n";
+    check_row(&rt, rt.alloc(), "run p 4 16484 100 100", BLOCKS, report)
+}
+
+#[test]
+fn blocks_cut_in_their_undoing(rt: HostRuntime) -> Result<(), Fail> {
+    let report = "boot 1 start at 0 undone 0 replayed 0\n\
+        boot 1 thread 0 t:\n\
+        boot 1 cut at 0\n\
+        boot 2 cut in undo\n\
+        boot 3 start at 0 undone 2 replayed 0\n\
+        boot 3 thread 0 t:\n\
+        boot 3 cut at 0\n\
+        boot 4 start at 0 undone 0 replayed 0\n\
+        boot 4 thread 0 t:\n\
+        boot 4 cut at 1\n\
+        boot 5 cut in undo\n\
+        boot 6 start at 1 undone 1 replayed 1\n\
+        boot 6 thread 0 t: ok=0 x=9\n\
+        boot 6 end at 4\n\
+        events 4\n\
+        ticks 0\n\
+        thread 0 t priority 1 ready\n\
+        list ready 1: 0\n\
+        object 2 T static v=6\n\
+        console 6\n\
+        | 0\n\
+        | 1 6\n";
+    check_row(&rt, rt.alloc(), "run p 4 16394 2 16 31 0", BLOCKS, report)
+}
+
+#[test]
+fn faults(rt: HostRuntime) -> Result<(), Fail> {
+    let cases = [
+        (
+            "thread t() priority 1 { while 1 { } } start t();",
+            "ended 1\nconsole 0\n",
+        ),
+        (ENDLESS_BLOCK, "ended 1\nobject 2 T static v=0\nconsole 0\n"),
+        (
+            TOO_MANY_STORES,
+            "ended 2\nobject 2 T static v=0\nconsole 0\n",
+        ),
+    ];
+    for (program, ended) in cases {
+        let mut dump = String::from_str(rt.alloc(), "thread 0 t priority 1 ")?;
+        dump.push_str(ended)?;
+        check_dump(&rt, rt.alloc(), 1, program, &dump)?;
+    }
+    Ok(())
+}
+
+#[test]
+fn faults_cut_in_their_undoing(rt: HostRuntime) -> Result<(), Fail> {
+    let report = "boot 1 start at 0 undone 0 replayed 0\n\
+        boot 1 thread 0 t:\n\
+        boot 1 cut at 0\n\
+        boot 2 cut in undo\n\
+        boot 3 start at 0 undone 64 replayed 0\n\
+        boot 3 thread 0 t:\n\
+        boot 3 cut at 0\n\
+        boot 4 start at 0 undone 0 replayed 0\n\
+        boot 4 thread 0 t:\n\
+        boot 4 end at 1\n\
+        events 1\n\
+        ticks 0\n\
+        thread 0 t priority 1 ended 2\n\
+        object 2 T static v=0\n\
+        console 0\n";
+    let line = "run p 1 16670 64 386";
+    check_row(&rt, rt.alloc(), line, TOO_MANY_STORES, report)
+}
+
+#[test]
+fn replay_room(rt: HostRuntime) -> Result<(), Fail> {
+    let program = "thread t() priority 1 { while 1 { print \"x\"; } } start t();";
+    let lines = "| x\n".repeat(rt.alloc(), 128)?;
+    let cases = [
+        (
+            128,
+            "thread 0 t priority 1 ready\nlist ready 1: 0\nconsole 256\n",
+        ),
+        (129, "thread 0 t priority 1 ended 4\nconsole 256\n"),
+    ];
+    for (steps, state) in cases {
+        let mut dump = String::from_str(rt.alloc(), state)?;
+        dump.push_str(&lines)?;
+        check_dump(&rt, rt.alloc(), steps, program, &dump)?;
+    }
+    Ok(())
+}
+
+#[test]
+fn values(rt: HostRuntime) -> Result<(), Fail> {
+    let cases = [
+        (
+            "thread t() priority 1 { print 7 / 0, \" \", 7 % 0, \" \", 0 - 1, \" \", 1 << 33; } start t();",
+            "console 26\n| 4294967295 7 4294967295 2\n",
+        ),
+        (
+            "fn f(a) { return a * 2; } thread t() priority 1 { let x = 0; x = f(4); print x; } start t();",
+            "console 2\n| 8\n",
+        ),
+    ];
+    for (program, console) in cases {
+        let ready = "thread 0 t priority 1 ready\nlist ready 1: 0\n";
+        let mut dump = String::from_str(rt.alloc(), ready)?;
+        dump.push_str(console)?;
+        check_dump(&rt, rt.alloc(), 1, program, &dump)?;
+    }
+    Ok(())
+}
+
+#[test]
+fn locals(rt: HostRuntime) -> Result<(), Fail> {
+    let report = "boot 1 start at 0 undone 0 replayed 0\n\
+        boot 1 thread 0 t:\n\
+        boot 1 cut at 1\n\
+        boot 2 start at 1 undone 2 replayed 1\n\
+        boot 2 thread 0 t: x=3 y=4\n\
+        boot 2 cut at 2\n\
+        boot 3 start at 2 undone 0 replayed 2\n\
+        boot 3 thread 0 t: x=3 y=4 a=3 b=4 c=7\n\
+        boot 3 cut at 3\n\
+        boot 4 start at 3 undone 1 replayed 3\n\
+        boot 4 thread 0 t: x=7 y=4\n\
+        boot 4 cut at 4\n\
+        boot 5 start at 4 undone 2 replayed 4\n\
+        boot 5 thread 0 t: x=7\n\
+        boot 5 cut at 5\n\
+        boot 6 start at 5 undone 0 replayed 0\n\
+        boot 6 end at 6\n\
+        events 6\n\
+        ticks 0\n\
+        thread 0 t priority 1 ended 0\n\
+        console 11\n\
+        | in\n\
+        | 7\n\
+        | 7\n\
+        | out\n";
+    check_row(&rt, rt.alloc(), "run p 6 16419 33 28 39 18", LOCALS, report)
+}
+
+#[test]
+fn objects(rt: HostRuntime) -> Result<(), Fail> {
+    let report = "boot 1 start at 0 undone 0 replayed 0\n\
+        boot 1 thread 0 b:\n\
+        boot 1 cut at 1\n\
+        boot 2 start at 1 undone 0 replayed 1\n\
+        boot 2 thread 0 b: ok=1 d=9 e=49\n\
+        boot 2 cut at 1\n\
+        boot 3 start at 1 undone 6 replayed 1\n\
+        boot 3 thread 0 b: ok=1 d=9 e=49\n\
+        boot 3 end at 3\n\
+        events 3\n\
+        ticks 0\n\
+        thread 0 b priority 3 ended 0\n\
+        object 2 T static v=7\n\
+        object 4 U static w=9\n\
+        object 6 T static v=49\n\
+        console 5\n\
+        | 9<49\n";
+    check_row(&rt, rt.alloc(), "run p 3 16421 25", OBJECTS, report)
+}
+
+/// A program that fills the console but for two bytes, prints a line that has no room, and then its answer.
+fn filling(alloc: Global, line: &str) -> Result<String, Fail> {
+    let mut program = String::from_str(alloc, "thread t() priority 1 {\nlet ok = 9; let n = 0;\n")?;
+    program.push_str("while n < 127 { print \"")?;
+    program.push_str(line)?;
+    program.push_str("\" -> ok; n = n + 1; }\nprint ok;\n}\nstart t();\n")?;
+    Ok(program)
+}
+
+#[test]
+fn full_console(rt: HostRuntime) -> Result<(), Fail> {
+    let line = "x".repeat(rt.alloc(), 64)?;
+    let program = filling(rt.alloc(), &line)?;
+    let mut printed = String::from_str(rt.alloc(), "| ")?;
+    printed.push_str(&line)?;
+    printed.push_str("\n")?;
+    let lines = printed.repeat(rt.alloc(), 126)?;
+    for (steps, bytes, answer) in [(127, 8_190, ""), (128, 8_192, "| 0\n")] {
+        let mut dump = String::from_str(
+            rt.alloc(),
+            "thread 0 t priority 1 ready\nlist ready 1: 0\n",
+        )?;
+        dump.push_str(&format!(in rt.alloc(); "console {bytes}\n")?)?;
+        dump.push_str(&lines)?;
+        dump.push_str(answer)?;
+        check_dump(&rt, rt.alloc(), steps, &program, &dump)?;
+    }
+    Ok(())
+}
+
+#[test]
+fn nobody_ready(rt: HostRuntime) -> Result<(), Fail> {
+    let cut = "boot 1 start at 0 undone 0 replayed 0\n\
+        boot 1 cut at 0\n\
+        boot 2 cut in undo\n\
+        boot 3 start at 0 undone 1 replayed 0\n\
+        boot 3 cut at 0\n\
+        boot 4 start at 0 undone 0 replayed 0\n\
+        boot 4 end at 1\n\
+        events 1\n\
+        ticks 0\n\
+        console 0\n";
+    check_row(&rt, rt.alloc(), "run p 1 16387 1 2", "", cut)?;
+    let none = "boot 1 start at 0 undone 0 replayed 0\n\
+        boot 1 end at 3\n\
+        events 3\n\
+        ticks 0\n\
+        console 0\n";
+    for program in [
+        "",
+        " ",
+        "thread t() priority 1 { print \"a\"; }",
+        "fn f(a) { return a; }",
+    ] {
+        check_row(&rt, rt.alloc(), "run p 3", program, none)?;
+    }
+    Ok(())
+}
