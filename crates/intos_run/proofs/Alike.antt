@@ -1,5 +1,5 @@
 -- What is left and told of a run of one program is left and told of the run of another that runs alike.
-use Rattle.std.proofs.Common.{◌≡◌, ℕ, ◌+◌, ◌*◌, ◌≤◌, List, [], ◌∷◌, ◌++◌, Option, None, Bool, true, false, if◌then◌else◌, length, drop, refl, sym, ◌∙◌, ap, subst, arith}
+use Rattle.std.proofs.Common.{◌≡◌, ℕ, ◌+◌, ◌≤◌, List, [], ◌∷◌, ◌++◌, Option, None, if◌then◌else◌, length, drop, refl, ◌∙◌, ap, arith}
 use Rattle.nv_memory.specs.Budget.{first_budget, later_budgets}
 use Rattle.thread_tree.specs.declared.tree.Tree.{Tree}
 use Rattle.thread_tree.specs.Program.{Program, program_of}

@@ -1,5 +1,5 @@
 -- How a boot ends, from what its parts did.
-use Rattle.std.proofs.Common.{◌≡◌, ◌≢◌, ℕ, ◌+◌, ◌-◌, ◌*◌, ◌<◌, ◌≤◌, ◌==◌, List, [], ◌∷◌, ◌++◌, Option, Some, None, Result, Ok, Err, Bool, true, false, refl, sym, ◌∙◌, ap, subst, arith, append-nil}
+use Rattle.std.proofs.Common.{◌≡◌, ℕ, ◌+◌, ◌-◌, ◌*◌, ◌<◌, ◌≤◌, ◌==◌, List, [], ◌∷◌, ◌++◌, Option, Some, None, Result, Ok, Err, Bool, true, false, refl, sym, ◌∙◌, ap, subst, arith, append-nil}
 use Rattle.std.specs.Result.{is_err}
 use Rattle.std.specs.Prelude.{slice_index}
 use Rattle.std.proofs.lemmas.Bool.Decides.{nat_tests}
@@ -97,14 +97,8 @@ MatchEnd-weaker (Done nv) p q r h = p nv h
 MatchEnd-weaker (Cut nv) p q r h = q nv h
 MatchEnd-weaker (SinkFailed nv) p q r h = r nv h
 
--- what holds of each end of a boot holds of a boot that ended so
-pub MatchEnd-each : {N : Type 0} (end : BootEnd N) {P Q R : N → Type 0} → ((nv : N) → P nv) → ((nv : N) → Q nv) → ((nv : N) → R nv) → MatchEnd end P Q R
-MatchEnd-each (Done nv) p q r = p nv
-MatchEnd-each (Cut nv) p q r = q nv
-MatchEnd-each (SinkFailed nv) p q r = r nv
-
 -- whether a boot goes dark, as its recovery tells it
-pub goes_dark-short : (budget : Option ℕ) (words : List ℕ) → IsShort budget (recovering words) → goes_dark budget words ≡ true
+goes_dark-short : (budget : Option ℕ) (words : List ℕ) → IsShort budget (recovering words) → goes_dark budget words ≡ true
 goes_dark-short None words short = absurd short
 goes_dark-short (Some budget) words short = grind (arith, nat_tests)
 

@@ -2,7 +2,6 @@ pub mod Alike
 pub mod AtMostLaws
 pub mod BootLemmas
 pub mod Commands
-pub mod LawSets
 pub mod Numbers
 pub mod ReportLemmas
 pub mod RunLemmas

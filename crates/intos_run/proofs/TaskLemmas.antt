@@ -1,15 +1,13 @@
 -- What was read is what was asked for.
-use Rattle.std.proofs.Common.{◌≡◌, ℕ, ◌<◌, ◌≤◌, List, Option, Some, None, true, false, inl, inr, sym, ◌∙◌, ap, subst, refl, arith}
+use Rattle.std.proofs.Common.{◌≡◌, ℕ, List, Option, Some, None, true, false, inl, inr, sym, ◌∙◌, ap, subst, refl, arith}
 use Rattle.std.specs.Prelude.{IfSome}
 use Rattle.thread_tree.specs.declared.tree.Tree.{Tree}
-use Rattle.thread_tokens.specs.Scan.{scan_of}
-use Rattle.thread_text.specs.Verdict.{Verdict, Fine, Faulty as found, verdict}
+use Rattle.thread_text.specs.Verdict.{Verdict, Fine, Faulty as found}
 use Rattle.thread_text.specs.declared.fault.TextFault.{TextFault}
 use Rattle.thread_text.specs.declared.fault.TextFault.TheVariants as text_fault
 use Rattle.thread_check.specs.Faults.{fault_of, IsTold}
 use Rattle.thread_check.specs.declared.fault.CheckFault.{CheckFault}
 use Rattle.thread_check.specs.declared.fault.CheckFault.TheVariants as check_fault
-use Rattle.accepted_program.specs.Accepted.{IsSpelling, IsAccepted}
 use Rattle.accepted_program.proofs.OneProgram.{same_names, same_decls, accepted_too}
 use Rattle.outer_world.specs.Causes.{Rose}
 use Rattle.intos_run.specs.Command.{IsCommand}
@@ -18,7 +16,7 @@ use Rattle.same_runs.specs.Bare.{bare_tree}
 use Rattle.accepted_program.specs.Same.{SameDecls}
 use Rattle.served_program.specs.Served.{is_served}
 use Rattle.intos_run.specs.Program.{IsTreeOf, IsProgram}
-use Rattle.intos_run.specs.Refusals.{status_of, line_of, refusal_of_text, refusal_of_check, IsTextFault, IsFaulty, RefusesText, RefusesProgram, RefusesNamed, RefusesRun, Tells}
+use Rattle.intos_run.specs.Refusals.{status_of, line_of, refusal_of_text, refusal_of_check, IsTextFault, RefusesText, RefusesRun, Tells}
 use Rattle.intos_run.specs.Top.{Task, Asks, IsRefusedBy}
 use Rattle.intos_run.specs.declared.refusal.Refusal.{Refusal}
 use Rattle.intos_run.specs.declared.refusal.Refusal.TheVariants.{Usage, ProgramUnread, ProgramTooLong, Faulty, ProgramNotYet, NoMemory}

@@ -17,7 +17,6 @@ use Rattle.kernel_model.proofs.DumpLemmas.{text_of-append}
 use Rattle.undo_journal.specs.Undo.{IsAtRest}
 use Rattle.nv_memory.proofs.BlankWords.{slice_index-blank_words}
 use Rattle.thread_tree.specs.Program.{Program}
-use Rattle.kernel_boots.specs.Boots.{uncut}
 use Rattle.replay_list.specs.Kept.{counter_of}
 use Rattle.intos_run.specs.Report.{is_formatted, goes_dark, before_last, cut_boots, last_boot, dump_after, report}
 use Rattle.intos_run.specs.Runs.{budgets_of, lines_before_dump, StepsWithin}

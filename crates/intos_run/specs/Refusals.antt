@@ -1,11 +1,11 @@
 -- Why a run isn't begun.
-use Rattle.std.specs.Prelude.{◌≡◌, ◌⊎◌, Err, ℕ, ◌<◌, ◌≤◌, ◌++◌, [], ◌∷◌, List, length, false, Option, Some, IfSome, codes}
+use Rattle.std.specs.Prelude.{◌≡◌, ◌⊎◌, Err, ℕ, ◌<◌, ◌≤◌, ◌++◌, [], ◌∷◌, List, length, false, Option, IfSome, codes}
 use Rattle.std.specs.Fmt.{decimal}
 use Rattle.outer_world.specs.Causes.{Rose, RoseBy}
 use Rattle.outer_world.specs.Written.{put_to, IsPart}
 use Rattle.thread_tree.specs.declared.place.Place.{Place}
 use Rattle.thread_tree.specs.declared.tree.Tree.{Tree}
-use Rattle.thread_tokens.specs.Scan.{Scan, scan_of}
+use Rattle.thread_tokens.specs.Scan.{scan_of}
 use Rattle.thread_text.specs.declared.fault.TextFault.{TextFault}
 use Rattle.thread_text.specs.declared.fault.TextFault.TheVariants as text_fault
 use Rattle.thread_text.specs.Verdict.{Answers, verdict}

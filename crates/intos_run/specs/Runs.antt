@@ -11,7 +11,7 @@ use Rattle.replay_list.specs.Kept.{counter_of, recovery_steps}
 use Rattle.replay_list.specs.Stands.{Stands}
 use Rattle.kernel_boots.specs.Boots.{uncut, DidNotRise}
 use Rattle.intos_run.specs.Boots.{IsLater, IsCutBoot, EachBoot}
-use Rattle.intos_run.specs.Report.{goes_dark, before_last, cut_boots, start_lines, dump_after, report}
+use Rattle.intos_run.specs.Report.{goes_dark, before_last, cut_boots, start_lines, report}
 use Rattle.boot_report.specs.Lines.{end_line}
 
 -- the steps that a recovery from these words of the run may take

@@ -1,11 +1,9 @@
 -- What the top call is asked for.
-use Rattle.std.specs.Prelude.{◌≡◌, ◌⊎◌, ℕ, ◌<◌, List, length, Option, Some, IfSome, codes}
-use Rattle.thread_tree.specs.declared.place.Place.{Place}
+use Rattle.std.specs.Prelude.{◌≡◌, ℕ, List, Option, Some, IfSome}
 use Rattle.intos_run.specs.Command.{IsCommand}
 use Rattle.thread_tree.specs.Program.{Program}
 use Rattle.intos_run.specs.Program.{IsProgram}
 use Rattle.intos_run.specs.Refusals.{RefusesText, line_of, status_of}
-use Rattle.intos_run.specs.declared.fault.Fault.{Fault}
 use Rattle.intos_run.specs.declared.refusal.Refusal.{Refusal}
 
 -- a run: the name and the text of its program, that program, the number of events and the budgets

@@ -1,4 +1,4 @@
-use Rattle.std.proofs.Common.{◌≡◌, ◌==◌, ◌≤◌, ◌+◌, ◌*◌, ◌++◌, ◌∷◌, [], true, false, ℕ, Bool, refl, sym, ◌∙◌, ap, subst, arith}
+use Rattle.std.proofs.Common.{◌≡◌, ◌==◌, ◌++◌, ◌∷◌, [], true, false, ℕ, Bool, refl, sym, ◌∙◌, ap, subst, arith}
 use Rattle.outer_world.specs.Written.{put_to, IsPart}
 use Rattle.thread_tree.specs.Program.{program_of}
 use Rattle.undo_journal.specs.Undo.{magic}
@@ -9,7 +9,7 @@ use Rattle.kernel_boots.specs.Boots.{uncut, IsSpent}
 use Rattle.boot_report.specs.Lines.{dark_line}
 use Rattle.intos_run.specs.Ends.{IsCut, IsFailed}
 use Rattle.intos_run.specs.Report.{is_formatted}
-use Rattle.intos_run.proofs.BootLemmas.{MatchEnd-weaker, MatchEnd-each, goes_dark-enough, done_since, cut_since, failed_since, cut_dark, failed_dark, later_lost}
+use Rattle.intos_run.proofs.BootLemmas.{MatchEnd-weaker, goes_dark-enough, done_since, cut_since, failed_since, cut_dark, failed_dark, later_lost}
 use Rattle.intos_run.proofs.AtMostLaws.{DidNotRise-short}
 use Rattle.intos_run.proofs.boot.boot.Goals as goal
 

@@ -1,9 +1,8 @@
-use Rattle.std.proofs.Common.{◌≡◌, true, false, ◌<◌, ◌≤◌, ◌+◌, ◌-◌, ◌*◌, ◌++◌, ◌∷◌, [], ℕ, Option, List, refl, sym, ◌∙◌, ap, subst, arith}
+use Rattle.std.proofs.Common.{◌≡◌, true, false, ◌<◌, ◌+◌, ◌-◌, ◌*◌, ◌++◌, ◌∷◌, [], ℕ, refl, sym, ◌∙◌, ap, subst, arith}
 use Rattle.std.specs.Result.{is_err}
 use Rattle.nv_memory.specs.Budget.{IsShort}
 use Rattle.outer_world.specs.Written.{put_to, IsPart}
 use Rattle.thread_tree.specs.Program.{program_of}
-use Rattle.undo_journal.specs.Undo.{IsAtRest}
 use Rattle.kernel_image.specs.Decoded.{image_in}
 use Rattle.replay_list.specs.Kept.{counter_of}
 use Rattle.kernel_boots.specs.Boots.{uncut}

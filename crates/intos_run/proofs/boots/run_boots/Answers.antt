@@ -1,8 +1,5 @@
 use Rattle.std.proofs.Common.{refl, ◌∙◌, arith}
-use Rattle.std.proofs.Common.{ap, length}
-use Rattle.std.specs.Prelude.{◌≡◌, []}
 use Rattle.thread_tree.specs.Program.{program_of}
-use Rattle.intos_run.specs.Runs.{recovered}
 use Rattle.intos_run.proofs.RunLemmas.{at_first, at_next, steps_at, steps_next, whole_at, broken_at}
 use Rattle.intos_run.proofs.boots.run_boots.Goals as goal
 

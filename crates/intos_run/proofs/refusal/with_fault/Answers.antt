@@ -1,4 +1,4 @@
-use Rattle.std.proofs.Common.{◌≡◌, ◌++◌, List, ℕ, sym, ◌∙◌, ap, append_assoc, codes}
+use Rattle.std.proofs.Common.{◌++◌, List, ℕ, sym, ◌∙◌, ap, append_assoc, codes}
 use Rattle.std.specs.Fmt.{decimal}
 use Rattle.intos_run.specs.Refusals.{fault_text}
 use Rattle.intos_run.proofs.refusal.with_fault.Goals as goal

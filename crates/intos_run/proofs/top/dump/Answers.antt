@@ -1,5 +1,5 @@
-use Rattle.std.proofs.Common.{◌≡◌, List, ◌∙◌, ap, sym, subst}
-use Rattle.outer_world.specs.Written.{Puts, IsPart, put_to}
+use Rattle.std.proofs.Common.{List, ◌∙◌, ap, subst}
+use Rattle.outer_world.specs.Written.{IsPart, put_to}
 use Rattle.thread_tree.specs.Program.{program_of}
 use Rattle.undo_journal.proofs.Undone.{undone-at_rest}
 use Rattle.kernel_image.specs.Decoded.{image_in}
