@@ -18,7 +18,7 @@ use Rattle.thread_tree.specs.declared.block.Stmt.TheOpen.{Stmt-F, Block-F}
 use Rattle.thread_tree.specs.declared.block.Stmt.TheOpen as stmt
 use Rattle.thread_tree.specs.declared.tree.Decl.{Decl}
 use Rattle.thread_tree.specs.declared.tree.Decl.TheVariants as decl
-use Rattle.thread_check.proofs.Induction.{each_block, each_tblock}
+use Rattle.thread_check.proofs.Callers.{each_block, each_tblock}
 use Rattle.accepted_program.specs.Same.{SameExpr, same_number, same_local, same_field, same_prefix, same_binary, EachSame, both_empty, both_more, SameItem, same_text, same_value, SameWho, same_own, same_of, SameCall, same_print, same_spawn, same_delete, same_delay, same_setprio, same_getprio, same_send, same_receive, same_take, same_give, same_now, same_yield, same_waiting, SameTBlock, same_tblock, SameTStmts, no_same_tstmts, same_tstmts, SameTStmt, same_tlet, same_tlet_new, same_tset, same_tset_new, same_store, same_free, same_tif, same_tif_else, same_twhile, same_tbreak, same_abort, same_tgive, SameBlock, same_block, SameStmts, no_same_stmts, same_stmts, SameStmt, same_let, same_set, same_apply, same_if, same_if_else, same_while, same_ploop, same_break, same_return, same_return_value, same_atomic, same_call, SameDecl, same_kind, same_object, same_queue, same_semaphore, same_function, same_thread, same_start, SameDecls}
 
 -- a list whose items are the same as themselves

@@ -16,7 +16,7 @@ use Rattle.thread_check.specs.Names.{Names}
 use Rattle.thread_check.specs.Calls.{takers}
 use Rattle.thread_check.specs.Blocks.{allowed}
 use Rattle.thread_check.specs.Statements.{taker, callee_rule, atomic_rule, statement_rule, block_rule, statement_parts}
-use Rattle.thread_check.proofs.StatementLaws.{statement_rule_out, block_rule_out}
+use Rattle.thread_check.proofs.Callers.{statement_rule_out, block_rule_out}
 use Rattle.accepted_program.specs.Same.{EachSame, SameExpr, SameCall, same_print, same_spawn, same_delete, same_delay, same_setprio, same_getprio, same_send, same_receive, same_take, same_give, same_now, same_yield, same_waiting, SameTBlock, SameBlock, same_block, SameStmts, no_same_stmts, same_stmts, SameStmt, same_let, same_set, same_apply, same_if, same_if_else, same_while, same_ploop, same_break, same_return, same_return_value, same_atomic, same_call}
 use Rattle.accepted_program.proofs.Found.{length_same}
 use Rattle.accepted_program.proofs.NameLaws.{IsSameNames, used-same, arity-same, peak_of-same, new_local-same}

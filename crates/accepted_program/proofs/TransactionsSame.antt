@@ -10,7 +10,7 @@ use Rattle.thread_check.specs.Verdict.{fine, ◌>>=◌, ◌>>◌, same_count}
 use Rattle.thread_check.specs.Scope.{Scope, is_local, with_local}
 use Rattle.thread_check.specs.Names.{Names}
 use Rattle.thread_check.specs.Transactions.{Transaction, own_local, tstatement_rule, tblock_rule, tstatement_parts}
-use Rattle.thread_check.proofs.TransactionLaws.{tstatement_rule_out, tblock_rule_out}
+use Rattle.thread_check.proofs.Callers.{tstatement_rule_out, tblock_rule_out}
 use Rattle.accepted_program.specs.Same.{SameExpr, SameTBlock, same_tblock, SameTStmts, no_same_tstmts, same_tstmts, SameTStmt, same_tlet, same_tlet_new, same_tset, same_tset_new, same_store, same_free, same_tif, same_tif_else, same_twhile, same_tbreak, same_abort, same_tgive}
 use Rattle.accepted_program.proofs.Found.{length_same}
 use Rattle.accepted_program.proofs.NameLaws.{IsSameNames, used-same, new_local-same}

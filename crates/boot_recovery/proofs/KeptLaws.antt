@@ -8,7 +8,7 @@ use Rattle.std.proofs.lemmas.List.Folds.{sum_by-replicate}
 use Rattle.std.specs.Prelude.{map, slice_index, slice_set, slice_get, sum_by, replicate, Option, Some, None}
 use Rattle.std.specs.List.{enumerate_from}
 use Rattle.undo_journal.specs.Undo.{magic, entries, undoing, undone, durable, IsAtRest}
-use Rattle.undo_journal.proofs.Undone.{durable-at_rest, undone-at_rest}
+use Rattle.undo_journal.proofs.Callers.{durable-at_rest, undone-at_rest}
 use Rattle.thread_tree.specs.Program.{Program, Template, Start}
 use Rattle.kernel_model.specs.Kernel as kernel
 use Rattle.kernel_model.specs.Kernel.{State}

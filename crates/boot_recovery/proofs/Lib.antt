@@ -1,8 +1,8 @@
-pub mod Choices
-pub mod StartLaws
-pub mod LifeLaws
-pub mod RowLaws
-pub mod BeginLaws
-pub mod BothLaws
-pub mod KeptLaws
-pub mod LawSets
+mod Choices
+mod StartLaws
+mod LifeLaws
+mod RowLaws
+mod BeginLaws
+mod BothLaws
+mod KeptLaws
+mod LawSets

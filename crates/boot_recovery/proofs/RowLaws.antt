@@ -12,7 +12,7 @@ use Rattle.kernel_image.specs.declared.cell.Cell.{Cell}
 use Rattle.kernel_image.specs.declared.cell.Cell.TheVariants.{RowWord, StartValue, RecordWord}
 use Rattle.kernel_image.specs.Agree.{Does}
 use Rattle.kernel_image.specs.Decoded.{RowWords, decoded_of, listed, row_of, row_at}
-use Rattle.kernel_image.proofs.StoreLaws.{row_at-decoded}
+use Rattle.kernel_image.proofs.Callers.{row_at-decoded}
 
 listed_at : (n : ℕ) (f : ℕ → ℕ) (i : ℕ) → i < n → slice_index (listed n f) i ≡ f i
 unfolding listed

@@ -25,8 +25,7 @@ use Rattle.kernel_image.specs.Decoded.{RowWords, decoded_of, listed, row_of, que
 use Rattle.kernel_image.specs.Shown.{items_of, shown}
 use Rattle.kernel_image.specs.Initial.{initial_cell, initial_row_word, started_word, initial_heap_word, hole_word, first_hole, end_after}
 use Rattle.boot_recovery.proofs.Choices.{by_test}
-use Rattle.kernel_image.proofs.InitialRows.{initial-rows, initial-items, initial-semaphore}
-use Rattle.kernel_image.proofs.InitialObjects.{initial-objects}
+use Rattle.kernel_image.proofs.Callers.{initial-rows, initial-items, initial-semaphore, initial-objects}
 use Rattle.persistent_objects.specs.Holes.{AreHoles}
 use Rattle.replay_list.specs.Records.{start_in, values_in}
 use Rattle.replay_list.specs.Stands.{Stands, IsLife, HasLife}

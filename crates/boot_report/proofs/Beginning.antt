@@ -4,7 +4,7 @@ use Rattle.outer_world.specs.Written.{IsPart, put_to}
 use Rattle.thread_tree.specs.Program.{Program}
 use Rattle.kernel_model.specs.Dump.{text_of}
 use Rattle.kernel_model.specs.Kernel.{State}
-use Rattle.kernel_dump.proofs.PutInParts.{part_of_line, part_of_lines, put_lines}
+use Rattle.kernel_dump.proofs.Callers.{part_of_line, part_of_lines, put_lines}
 use Rattle.boot_report.specs.Lines.{begin_lines, replayed, start_line, thread_lines}
 
 module _ (number undone : ℕ) (p : Program) (K : State) (events count : ℕ) (is_events : events ≡ K.events) (is_count : count ≡ replayed K) where

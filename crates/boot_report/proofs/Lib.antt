@@ -1,4 +1,4 @@
-pub mod Beginning
-pub mod LawSets
-pub mod Locals
-pub mod Rows
+mod Beginning
+mod LawSets
+mod Locals
+mod Rows

@@ -16,7 +16,7 @@ use Rattle.kernel_image.specs.Agree.{Both}
 use Rattle.kernel_image.specs.Decoded.{Decoded, RowWords, blank_row, row_at}
 use Rattle.replay_list.specs.Records.{encoded, recorded, HasRecords}
 use Rattle.replay_list.specs.Stands.{IsRow, HasContext, KernelStands}
-use Rattle.replay_list.proofs.BothLaws.{both_get_or}
+use Rattle.replay_list.proofs.Callers.{both_get_or}
 use Rattle.boot_report.specs.Lines.{passed_in, row_lines, thread_line, thread_lines}
 use Rattle.boot_report.specs.Parts.{found_in, line_by, lines_by}
 

@@ -6,7 +6,7 @@ use Rattle.kernel_image.specs.declared.cell.Cell.{Cell}
 use Rattle.kernel_image.specs.declared.cell.Cell.TheVariants.{Header, ConsoleWord}
 use Rattle.kernel_image.specs.Cells.{with_cell}
 use Rattle.kernel_image.specs.Decoded.{Decoded, decoded_of, listed}
-use Rattle.kernel_image.proofs.StoreLaws.{decoded_of-console_word, decoded_of-console_length}
+use Rattle.kernel_image.proofs.Callers.{decoded_of-console_word, decoded_of-console_length}
 use Rattle.kernel_image.specs.Shown.{byte_of}
 use Rattle.console_store.proofs.Bytes.{IsGrown, IsGrown-next, bytes_grown}
 use Rattle.console_store.specs.Console.{IsAppended, bytes_in, byte_in_word, grown_byte}

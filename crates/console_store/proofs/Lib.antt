@@ -1,2 +1,2 @@
-pub mod Bytes
-pub mod Images
+mod Bytes
+mod Images

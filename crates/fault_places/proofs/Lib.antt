@@ -1,15 +1,15 @@
-pub mod Scanning
-pub mod Answers
-pub mod Ways
-pub mod Places
-pub mod Steps
-pub mod Expressions
-pub mod Calls
-pub mod Blocks
-pub mod Transactions
-pub mod Statements
-pub mod Declarations
-pub mod FirstFault
-pub mod Rows
-pub mod Passing
-pub mod PassingBodies
+mod Scanning
+mod Answers
+mod Ways
+mod Places
+mod Steps
+mod Expressions
+mod Calls
+mod Blocks
+mod Transactions
+mod Statements
+mod Declarations
+mod FirstFault
+mod Rows
+mod Passing
+mod PassingBodies

@@ -1,10 +1,10 @@
-pub mod Table
-pub mod CompleteExpressions
-pub mod CompleteCalls
-pub mod CompleteTransactions
-pub mod CompleteBlocks
-pub mod CompletePrograms
-pub mod Stuck
-pub mod Paid
-pub mod Usual
-pub mod OpenSoFar
+mod Table
+mod CompleteExpressions
+mod CompleteCalls
+mod CompleteTransactions
+mod CompleteBlocks
+mod CompletePrograms
+mod Stuck
+mod Paid
+mod Usual
+mod OpenSoFar

@@ -6,17 +6,17 @@ use Rattle.std.proofs.lemmas.Bool.Decides.{nat_tests}
 use Rattle.nv_memory.specs.Budget.{IsShort, spent}
 use Rattle.nv_memory.specs.declared.nv.Nv.{Ghosts}
 use Rattle.outer_world.specs.Written.{put_to, IsPart, Puts}
-use Rattle.outer_world.proofs.WrittenLaws.{part_of_first}
+use Rattle.outer_world.proofs.Callers.{part_of_first}
 use Rattle.thread_tree.specs.Program.{Program}
 use Rattle.kernel_model.specs.Dump.{text_of}
 use Rattle.kernel_model.specs.Kernel.{State}
-use Rattle.kernel_model.proofs.DumpLemmas.{text_of-append}
+use Rattle.kernel_model.proofs.Callers.{text_of-append}
 use Rattle.undo_journal.specs.Undo.{magic, entries, IsAtRest}
 use Rattle.kernel_image.specs.Decoded.{image_in}
 use Rattle.replay_list.specs.Kept.{counter_of, recovering, IsKept}
 use Rattle.replay_list.specs.Stands.{Stands}
 use Rattle.kernel_boots.specs.Boots.{uncut, DidNotRise, IsSpent, IsUnderWay}
-use Rattle.kernel_boots.proofs.UncutLaws.{at-most-then}
+use Rattle.kernel_boots.proofs.Callers.{at-most-then}
 use Rattle.boot_report.specs.Lines.{begin_lines, end_line, cut_line, dark_line}
 use Rattle.intos_run.specs.Boots.{IsLater}
 use Rattle.intos_run.specs.Ends.{MatchEnd, IsWorked, EndsDone, EndsCut, EndsFailed, IsDone, IsCut, IsFailed, live_lines}

@@ -1,9 +1,9 @@
-pub mod Alike
-pub mod AtMostLaws
-pub mod BootLemmas
-pub mod Commands
-pub mod Numbers
-pub mod ReportLemmas
-pub mod RunLemmas
-pub mod TaskLemmas
-pub mod TopLemmas
+mod Alike
+mod AtMostLaws
+mod BootLemmas
+mod Commands
+mod Numbers
+mod ReportLemmas
+mod RunLemmas
+mod TaskLemmas
+mod TopLemmas

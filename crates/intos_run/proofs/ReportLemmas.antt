@@ -2,7 +2,7 @@
 use Rattle.std.proofs.Common.{◌≡◌, ℕ, List, [], ◌∷◌, ◌++◌, Option, Result, Ok, Err, sym, ◌∙◌, ap, subst, append-nil}
 use Rattle.outer_world.specs.Causes.{HasCause}
 use Rattle.outer_world.specs.Written.{put_to, IsPart, Puts}
-use Rattle.outer_world.proofs.WrittenLaws.{all_is_part, put_twice, part_of_first, part_of_second}
+use Rattle.outer_world.proofs.Callers.{all_is_part, put_twice, part_of_first, part_of_second}
 use Rattle.intos_run.specs.Refusals.{Tells}
 
 -- a line behind a text

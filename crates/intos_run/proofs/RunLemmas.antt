@@ -3,9 +3,9 @@ use Rattle.std.proofs.Common.{◌≡◌, ℕ, zero, suc, ◌+◌, ◌*◌, ◌<�
 use Rattle.nv_memory.specs.Budget.{first_budget, later_budgets}
 use Rattle.nv_memory.specs.declared.nv.Nv.{Ghosts}
 use Rattle.outer_world.specs.Written.{put_to, IsPart}
-use Rattle.outer_world.proofs.WrittenLaws.{put_nothing, put_twice, part_of_second}
+use Rattle.outer_world.proofs.Callers.{put_nothing, put_twice, part_of_second}
 use Rattle.kernel_model.specs.Dump.{text_of}
-use Rattle.kernel_model.proofs.DumpLemmas.{text_of-append}
+use Rattle.kernel_model.proofs.Callers.{text_of-append}
 use Rattle.intos_run.specs.Boots.{IsLater, IsCutBoot, EachBoot}
 use Rattle.kernel_boots.specs.Boots.{DidNotRise, IsSpent, IsUnderWay}
 use Rattle.replay_list.specs.Kept.{counter_of}

@@ -8,7 +8,7 @@ use Rattle.thread_text.specs.declared.fault.TextFault.TheVariants as text_fault
 use Rattle.thread_check.specs.Faults.{fault_of, IsTold}
 use Rattle.thread_check.specs.declared.fault.CheckFault.{CheckFault}
 use Rattle.thread_check.specs.declared.fault.CheckFault.TheVariants as check_fault
-use Rattle.accepted_program.proofs.OneProgram.{same_names, same_decls, accepted_too}
+use Rattle.accepted_program.proofs.Callers.{same_names, same_decls, accepted_too}
 use Rattle.outer_world.specs.Causes.{Rose}
 use Rattle.intos_run.specs.Command.{IsCommand}
 use Rattle.thread_tree.specs.Program.{Program, program_of}

@@ -6,16 +6,16 @@ use Rattle.std.specs.Result.{is_err}
 use Rattle.nv_memory.specs.Blank.{blank_words}
 use Rattle.nv_memory.specs.Budget.{first_budget, later_budgets}
 use Rattle.outer_world.specs.Written.{put_to, IsPart}
-use Rattle.outer_world.proofs.WrittenLaws.{put_twice, part_of_second}
+use Rattle.outer_world.proofs.Callers.{put_twice, part_of_second}
 use Rattle.kernel_model.specs.Dump.{dump_lines, text_of}
 use Rattle.kernel_model.specs.Kernel.{State}
 use Rattle.kernel_model.specs.Show.{names_of, visible, timed_list as kernel_timed}
 use Rattle.kernel_model.specs.Visible.{Visible}
 use Rattle.kernel_image.specs.Decoded.{Decoded, image_in}
 use Rattle.kernel_image.specs.Shown.{shown, timed_list}
-use Rattle.kernel_model.proofs.DumpLemmas.{text_of-append}
+use Rattle.kernel_model.proofs.Callers.{text_of-append}
 use Rattle.undo_journal.specs.Undo.{IsAtRest}
-use Rattle.nv_memory.proofs.BlankWords.{slice_index-blank_words}
+use Rattle.nv_memory.proofs.Callers.{slice_index-blank_words}
 use Rattle.thread_tree.specs.Program.{Program}
 use Rattle.replay_list.specs.Kept.{counter_of}
 use Rattle.intos_run.specs.Report.{is_formatted, goes_dark, before_last, cut_boots, last_boot, dump_after, report}

@@ -12,8 +12,7 @@ use Rattle.replay_list.specs.Kept.{IsSaved, IsBlank, IsKept, recovery_steps}
 use Rattle.replay_list.specs.Stands.{Stands}
 use Rattle.same_runs.specs.Bare.{bare_program}
 use Rattle.same_runs.specs.BareStates.{bare_state}
-use Rattle.same_runs.proofs.RunLaws.{initial_bare}
-use Rattle.same_runs.proofs.ShownLaws.{visible_bare, visible_any}
+use Rattle.same_runs.proofs.Callers.{initial_bare, visible_bare, visible_any}
 use Rattle.kept_alike.proofs.RowLaws.{rows_bare, costs_bare}
 
 -- what an image shows doesn't depend on the bodies of a program

@@ -1,5 +1,5 @@
-pub mod RowLaws
-pub mod KeptLaws
-pub mod LineLaws
-pub mod ServedSame
-pub mod TreeLaws
+mod RowLaws
+mod KeptLaws
+mod LineLaws
+mod ServedSame
+mod TreeLaws

@@ -13,7 +13,7 @@ use Rattle.kernel_model.specs.Show.{visible, names_of}
 use Rattle.boot_report.specs.Lines.{start_line, locals_text, thread_line, row_lines, thread_lines, begin_lines}
 use Rattle.same_runs.specs.Bare.{bare_program}
 use Rattle.same_runs.specs.BareStates.{bare_thread, bare_row, bare_state}
-use Rattle.same_runs.proofs.ShownLaws.{names_bare, locals_bare}
+use Rattle.same_runs.proofs.Callers.{names_bare, locals_bare}
 use Rattle.kept_alike.proofs.RowLaws.{passed_bare}
 use Rattle.kept_alike.proofs.KeptLaws.{seen_bare}
 

@@ -13,7 +13,7 @@ use Rattle.replay_list.specs.Stands.{IsLife, HasLife, IsRow}
 use Rattle.boot_report.specs.Lines.{passed_in}
 use Rattle.same_runs.specs.Bare.{bare_program}
 use Rattle.same_runs.specs.BareStates.{bare_thread, bare_row}
-use Rattle.same_runs.proofs.AlikeLaws.{bare_kept}
+use Rattle.same_runs.proofs.Callers.{bare_kept}
 
 -- a row stands for the row of a kernel
 agrees_bare : (row : RowWords) (r : kernel.Row) → Agrees row r → Agrees row (bare_row r)

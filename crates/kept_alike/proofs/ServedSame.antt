@@ -15,8 +15,8 @@ use Rattle.thread_tree.specs.declared.tree.Tree.{Tree}
 use Rattle.thread_tree.specs.Program as program
 use Rattle.accepted_program.specs.Same.{SameExpr, same_number, same_local, same_field, same_prefix, same_binary, EachSame, both_empty, both_more, SameCall, same_print, same_spawn, same_delete, same_delay, same_setprio, same_getprio, same_send, same_receive, same_take, same_give, same_now, same_yield, same_waiting, SameTBlock, same_tblock, SameTStmts, no_same_tstmts, same_tstmts, SameTStmt, same_tlet, same_tlet_new, same_tset, same_tset_new, same_store, same_free, same_tif, same_tif_else, same_twhile, same_tbreak, same_abort, same_tgive, SameBlock, same_block, SameStmts, no_same_stmts, same_stmts, SameStmt, same_let, same_set, same_apply, same_if, same_if_else, same_while, same_ploop, same_break, same_return, same_return_value, same_atomic, same_call, SameDecl, same_kind, same_object, same_queue, same_semaphore, same_function, same_thread, same_start, SameDecls}
 use Rattle.served_program.specs.Served.{is_served_field, is_served_expr, is_served_tlayer, is_served_tstmt, is_served_tblock, is_served_call, is_served_layer, is_served_stmt, is_served_block, is_served_decl, is_served}
-use Rattle.served_program.proofs.ServedLaws.{is_served_tblock_out, is_served_tstmt_out, is_served_block_out, is_served_stmt_out}
-use Rattle.same_runs.proofs.ProgramLaws.{programs_alike}
+use Rattle.served_program.proofs.Callers.{is_served_tblock_out, is_served_tstmt_out, is_served_block_out, is_served_stmt_out}
+use Rattle.same_runs.proofs.Callers.{programs_alike}
 
 -- both of two parts
 both : {a b c d : Bool} → a ≡ c → b ≡ d → (a && b) ≡ (c && d)

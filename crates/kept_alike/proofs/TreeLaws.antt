@@ -6,22 +6,20 @@ use Rattle.thread_tree.specs.declared.tree.Tree.{Tree}
 use Rattle.thread_tree.specs.Limits.{IsWithinLimits}
 use Rattle.thread_tree.specs.Program.{Program, program_of}
 use Rattle.thread_check.specs.Faults.{fault_of}
-use Rattle.thread_check.proofs.WithinLaws.{within}
-use Rattle.accepted_program.proofs.Verdicts.{same_fault}
+use Rattle.thread_check.proofs.Callers.{within}
+use Rattle.accepted_program.proofs.Callers.{same_fault}
 use Rattle.kernel_model.specs.declared.event.Event.TheVariants.{Step}
 use Rattle.kernel_model.specs.Dump.{dump_lines}
 use Rattle.kernel_model.specs.Kernel.{State}
 use Rattle.kernel_model.specs.Show.{names_of, visible}
 use Rattle.kernel_model.specs.Sound.{IsSound}
-use Rattle.kernel_model.proofs.RunLaws.{run-sound}
+use Rattle.kernel_model.proofs.Callers.{run-sound}
 use Rattle.replay_list.specs.Kept.{IsKept, recovery_steps, counter_of}
 use Rattle.kernel_boots.specs.Boots.{uncut, IsUnderWay}
 use Rattle.boot_report.specs.Lines.{begin_lines}
 use Rattle.same_runs.specs.Bare.{bare_program, bare_tree}
 use Rattle.same_runs.specs.BareStates.{bare_state}
-use Rattle.same_runs.proofs.AlikeLaws.{bare_run}
-use Rattle.same_runs.proofs.BareSame.{decls_same}
-use Rattle.same_runs.proofs.ProgramLaws.{program_bare}
+use Rattle.same_runs.proofs.Callers.{bare_run, decls_same, program_bare}
 use Rattle.kept_alike.proofs.KeptLaws.{kept_bare, recovery_bare}
 use Rattle.kept_alike.proofs.LineLaws.{begin_lines_bare, dump_bare}
 

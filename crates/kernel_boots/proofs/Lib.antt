@@ -1,1 +1,2 @@
-pub mod UncutLaws
+pub mod Callers
+mod UncutLaws

@@ -9,7 +9,7 @@ ghost use Rattle.replay_list.specs.Stands.{KernelStands};
 ghost use Rattle.served_program.specs.Served.{is_served};
 ghost use Rattle.kernel_boots.specs.Boots.{uncut, IsUnderWay, IsSpent};
 
-use kernel_events::event;
+use kernel_events::happen;
 use kernel_image::counter as events_of;
 use kernel_model::{Event, soundness};
 use nv_memory::Nv;
@@ -61,16 +61,18 @@ pub fn work<N: Nv, L: Ledger>(
 {
     soundness();
     standing_laws();
-    let mut kernel = kernel;
-    let mut events = events_of(&kernel.idle);
+    let Kernel { idle, contexts } = kernel;
+    let mut idle = idle;
+    let mut contexts = contexts;
+    let mut events = events_of(&idle);
     while events < steps {
-        match event(kernel, program, Event::Step, counter) {
+        match happen(idle, program, &mut contexts, Event::Step, counter) {
             Ok(next) => {
-                kernel = next;
+                idle = next;
                 events += 1;
             }
             Err(dark) => return Err(Stopped { dark, events }),
         }
     }
-    Ok(kernel)
+    Ok(Kernel { idle, contexts })
 }

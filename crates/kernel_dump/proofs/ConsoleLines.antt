@@ -5,7 +5,7 @@ use Rattle.std.proofs.lemmas.List.{take-append-drop, length-take, take_all, get_
 use Rattle.std.proofs.lemmas.List.Elements.{All-tail, All-from_get_or}
 use Rattle.std.proofs.lemmas.Bool.Decides.{nat_tests}
 use Rattle.kernel_model.specs.Dump.{IsOneLine, lines_with, console_lines}
-use Rattle.kernel_model.proofs.DumpLemmas.{lines_with-other, console_lines-newline}
+use Rattle.kernel_model.proofs.Callers.{lines_with-other, console_lines-newline}
 
 -- bytes without a newline are the last line, where there are some
 pub console_lines-last : (line : List ℕ) → 0 < length line → IsOneLine line → console_lines line ≡ line ∷ []

@@ -10,7 +10,7 @@ use Rattle.kernel_model.specs.Names.{Names}
 use Rattle.kernel_model.specs.Show.{visible}
 use Rattle.kernel_model.specs.Sound.{IsSound}
 use Rattle.kernel_model.specs.Visible.{Object, Row, Visible}
-use Rattle.kernel_model.proofs.DumpLemmas.{dump-parts, text_of-append}
+use Rattle.kernel_model.proofs.Callers.{dump-parts, text_of-append}
 use Rattle.kernel_image.specs.Decoded.{Decoded, listed}
 use Rattle.kernel_image.specs.Shown.{byte_of, objects_in, ready_lists, shown, shown_queue, shown_row, shown_semaphore, timed_list}
 use Rattle.console_store.specs.Console.{bytes_in}

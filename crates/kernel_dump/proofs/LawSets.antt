@@ -1,6 +1,6 @@
 -- Sets of laws, by the functions that use them.
 use Rattle.std.proofs.Common.{append_assoc, append-nil}
-use Rattle.outer_world.proofs.WrittenLaws.{put_nothing}
+use Rattle.outer_world.proofs.Callers.{put_nothing}
 use Rattle.kernel_dump.proofs.Declarations.{bytes_of_at, bytes_of_past, name_of_found, name_of_none, field_name_at, field_count_is, fields_few}
 use Rattle.kernel_dump.proofs.ObjectLines.{heap_word_in, heap_word_past, live_word, object_found, object_none}
 use Rattle.kernel_dump.proofs.Spaced.{lines_of_none, lines_of_some}

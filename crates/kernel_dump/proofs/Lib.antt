@@ -1,12 +1,13 @@
-pub mod ConsoleBytes
-pub mod ConsoleLines
-pub mod Declarations
-pub mod DumpParts
-pub mod LawSets
-pub mod Looped
-pub mod ObjectLines
-pub mod PutInParts
-pub mod Spaced
-pub mod ThreadLines
-pub mod Urgencies
-pub mod Walks
+pub mod Callers
+mod ConsoleBytes
+mod ConsoleLines
+mod Declarations
+mod DumpParts
+mod LawSets
+mod Looped
+mod ObjectLines
+mod PutInParts
+mod Spaced
+mod ThreadLines
+mod Urgencies
+mod Walks

@@ -5,7 +5,7 @@ use Rattle.std.specs.List.{range_with_len}
 use Rattle.std.specs.Prelude.{Result}
 use Rattle.outer_world.specs.Written.{put_to, IsPart, Puts}
 use Rattle.kernel_model.specs.Dump.{text_of}
-use Rattle.kernel_model.proofs.DumpLemmas.{text_of-append}
+use Rattle.kernel_model.proofs.Callers.{text_of-append}
 use Rattle.kernel_dump.proofs.PutInParts.{IsLeft, IsLeft-all, IsLeft-next, IsLeft-next_part, IsLeft-none}
 
 -- the lines of the numbers below n, and the text of those from i on

@@ -1,9 +1,9 @@
 -- A text that is put into a sink part by part.
 use Rattle.std.proofs.Common.{◌≡◌, ℕ, List, [], ◌∷◌, ◌++◌, Option, sym, ap, subst, ◌∙◌, append_assoc, append-nil}
 use Rattle.outer_world.specs.Written.{put_to, IsPart}
-use Rattle.outer_world.proofs.WrittenLaws.{put_nothing, put_twice, part_of_first, part_of_second}
+use Rattle.outer_world.proofs.Callers.{put_nothing, put_twice, part_of_first, part_of_second}
 use Rattle.kernel_model.specs.Dump.{text_of}
-use Rattle.kernel_model.proofs.DumpLemmas.{text_of-append}
+use Rattle.kernel_model.proofs.Callers.{text_of-append}
 
 -- a text was put but for this rest
 pub record IsLeft (old now : Option (List ℕ)) (text rest : List ℕ) : Type 0 where

@@ -36,10 +36,7 @@ use Rattle.kernel_model.specs.Sound.{IsSound}
 use Rattle.kernel_image.specs.Decoded.{Decoded, RowWords, blank_row, row_at, with_row, listed}
 use Rattle.kernel_image.specs.Shown.{objects_in, byte_of}
 use Rattle.persistent_objects.specs.Holes.{AreHoles}
-use Rattle.replay_list.proofs.BothLaws.{both_length}
-use Rattle.replay_list.proofs.LifeLaws.{agrees_recorded, agrees_ended}
-use Rattle.replay_list.proofs.RowLaws.{row_live}
-use Rattle.replay_list.proofs.ShownLaws.{shows_parts}
+use Rattle.replay_list.proofs.Callers.{both_length, agrees_recorded, agrees_ended, row_live, shows_parts}
 use Rattle.replay_list.specs.Records.{IsRecorded}
 use Rattle.replay_list.specs.Stands.{IsRow, IsLife, KernelStands, console_in}
 use Rattle.kernel_events.specs.Actions.{IsServed, IsPrinted, print_action, fits_on, ok_of, printed_on}

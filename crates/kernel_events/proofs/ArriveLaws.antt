@@ -31,7 +31,7 @@ use Rattle.kernel_image.specs.Agree.{Both}
 use Rattle.kernel_model.specs.Run.{one}
 use Rattle.kernel_model.specs.Sound.{IsSound, IsSoundThread, IsSoundRow}
 use Rattle.kernel_image.specs.Decoded.{Decoded, row_at, with_row}
-use Rattle.replay_list.proofs.RowLaws.{row_live}
+use Rattle.replay_list.proofs.Callers.{row_live}
 use Rattle.replay_list.specs.Stands.{IsLife, HasContext, IsContextOf, KernelStands}
 use Rattle.kernel_events.specs.Actions.{IsPrinted}
 use Rattle.kernel_events.specs.Follows.{Arrives}

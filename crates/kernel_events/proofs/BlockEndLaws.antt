@@ -5,7 +5,7 @@ use Rattle.std.proofs.lemmas.List.{length-replicate}
 use Rattle.nv_memory.specs.declared.nv.Nv.{Ghosts}
 use Rattle.undo_journal.specs.Undo.{durable, outside, IsAtRest}
 use Rattle.undo_journal.specs.Lending.{IsLent, IsWithin}
-use Rattle.undo_journal.proofs.Undone.{durable-at_rest}
+use Rattle.undo_journal.proofs.Callers.{durable-at_rest}
 use Rattle.thread_tree.specs.declared.block.Stmt.{Stmt, out-Stmt}
 use Rattle.thread_tree.specs.declared.block.Stmt.TheOpen.{Atomic}
 use Rattle.thread_tree.specs.declared.place.At.{At}
@@ -47,7 +47,7 @@ use Rattle.kernel_events.proofs.ActLaws.{ServedLaw, stands-stopped}
 use Rattle.kernel_events.proofs.ArriveLaws.{KeptLaw, action-here, used-is, stands-full}
 use Rattle.kernel_events.proofs.BlockLaws.{step-block, stands-results, block-needs}
 use Rattle.kernel_events.proofs.SetLaws.{set-again}
-use Rattle.kernel_events.proofs.EndLaws.{image_outside, fell-then, short-fell, committed-then, lost-then}
+use Rattle.kernel_events.proofs.EndLaws.{image_outside, fell-then, least-behind, short-fell, committed-then, lost-then}
 use Rattle.kernel_events.proofs.GivenLaws.{BlockLaw, StatementLaw, gives-many}
 
 -- the first three of at most three are all
@@ -67,15 +67,16 @@ image-anew old now new rest same undone = image_outside old new (undone ∙ same
 
 module _ {N : Type 0} (g : Ghosts N) where
   -- an end behind a transaction that was undone and opened anew, whose block was lent it
-  pub ends-anew : {X : Type 0} (device : X → N) (old lent anew : N) (m : ℕ) (r : Result X N) → m ≤ 1000 → IsLent g old lent → IsWithin g old lent 960 → IsCommitted g 961 lent anew → outside (g.words anew) ≡ durable (g.words lent) → MatchResult r (λ x. IsCommitted g m anew (device x)) (IsLost g m anew) → MatchResult r (λ x. IsCommitted g 6400 old (device x)) (IsLost g 6400 old)
-  ends-anew device old lent anew m (Ok x) few is within done undone end =
-      committed-then g 960 (961 + m) 6400 old lent (device x) (omega (arith, few)) is within (record {
+  pub ends-anew : (old lent anew : N) (n m : ℕ) (r : Result N N) → m ≤ 1000 → IsLent g old lent → IsWithin g old lent 960 → IsCommitted g 0 961 lent anew → outside (g.words anew) ≡ durable (g.words lent) → MatchResult r (IsCommitted g n m anew) (IsLost g m anew) → MatchResult r (IsCommitted g n 6400 old) (IsLost g 6400 old)
+  ends-anew old lent anew n m (Ok idle) few is within done undone end =
+      committed-then g n 960 (961 + m) 6400 old lent idle (omega (arith, few)) is within (record {
         at_rest = end.at_rest;
-        left = fell-then 961 m (g.left lent) (g.left anew) (g.left (device x)) done.left end.left;
+        at_least = least-behind n 961 (g.left lent) (g.left anew) (g.left idle) done.left end.at_least;
+        left = fell-then 961 m (g.left lent) (g.left anew) (g.left idle) done.left end.left;
         to_come = end.to_come ∙ done.to_come;
         ends = end.ends ∙ done.ends;
       })
-  ends-anew device old lent anew m (Err dark) few is within done undone end =
+  ends-anew old lent anew n m (Err dark) few is within done undone end =
       lost-then g 960 (961 + m) 6400 old lent dark (omega (arith, few)) is within (record {
         short = short-fell 961 m (g.left lent) (g.left anew) done.left end.short;
         dark = end.dark;

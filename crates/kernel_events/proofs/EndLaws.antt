@@ -1,17 +1,27 @@
 -- Ends of transactions, one after another.
-use Rattle.std.proofs.Common.{◌≡◌, ℕ, ◌+◌, ◌*◌, ◌≤◌, Option, Some, None, List, ap, arith, ◌∙◌}
+use Rattle.std.proofs.Common.{◌≡◌, ℕ, zero, suc, ◌+◌, ◌*◌, ◌≤◌, Option, Some, None, List, refl, ap, arith, ◌∙◌}
 use Rattle.nv_memory.specs.Budget.{spent, IsShort}
 use Rattle.nv_memory.specs.declared.nv.Nv.{Ghosts}
 use Rattle.undo_journal.specs.Undo.{outside, IsJournalled}
 use Rattle.undo_journal.specs.Lending.{IsLent, IsWithin, FellWithin}
 use Rattle.kernel_image.specs.Decoded.{decoded_of, image_in}
-use Rattle.kernel_image.specs.Cells.{cells}
+use Rattle.kernel_image.specs.Cells.{cells, FellAtLeast}
 use Rattle.kernel_events.specs.Ends.{IsCommitted, IsLost}
 
 -- what is spent fell by as much
 pub fell_spent : (n : ℕ) (left : Option ℕ) → FellWithin n left (spent left n)
 fell_spent n None = tt
 fell_spent n (Some left) = (omega arith, omega arith)
+
+pub least_none : (n : ℕ) (left : Option ℕ) → FellAtLeast 0 left (spent left n)
+least_none n None = tt
+least_none n (Some left) = omega arith
+
+-- where a write is left, it is spent
+pub least_spent : (left : Option ℕ) → (left ≡ Some 0 → ⊥) → FellAtLeast 1 left (spent left 1)
+least_spent None some = tt
+least_spent (Some zero) some = absurd (some refl)
+least_spent (Some (suc left)) some = omega arith
 
 -- words that are the same outside the journal have one image
 pub image_outside : (old new : List ℕ) → outside new ≡ outside old → image_in new ≡ image_in old
@@ -24,6 +34,23 @@ fell-then n m None (Some y) third a b = absurd a
 fell-then n m (Some x) None third a b = absurd a
 fell-then n m (Some x) (Some y) None a b = b
 fell-then n m (Some x) (Some y) (Some z) a b = (omega arith, omega arith)
+
+-- what fell by at least so much, before or behind what fell
+pub least-then : (n m : ℕ) (first second third : Option ℕ) → FellAtLeast n first second → FellWithin m second third → FellAtLeast n first third
+least-then n m None None None a b = tt
+least-then n m None None (Some z) a b = b
+least-then n m None (Some y) third a b = absurd a
+least-then n m (Some x) None third a b = absurd a
+least-then n m (Some x) (Some y) None a b = b
+least-then n m (Some x) (Some y) (Some z) a b = omega (arith, a, b.0)
+
+pub least-behind : (n m : ℕ) (first second third : Option ℕ) → FellWithin m first second → FellAtLeast n second third → FellAtLeast n first third
+least-behind n m None None None a b = tt
+least-behind n m None None (Some z) a b = b
+least-behind n m None (Some y) third a b = absurd a
+least-behind n m (Some x) None third a b = absurd a
+least-behind n m (Some x) (Some y) None a b = b
+least-behind n m (Some x) (Some y) (Some z) a b = omega (arith, a.0, b)
 
 fell-more : (n m : ℕ) (old new : Option ℕ) → n ≤ m → FellWithin n old new → FellWithin m old new
 fell-more n m None None le fell = fell
@@ -54,9 +81,10 @@ module _ {N : Type 0} (g : Ghosts N) where
   }
 
   -- an end behind a call that was lent the transaction
-  pub committed-then : (r m writes : ℕ) (old now new : N) → 4 * r + m ≤ writes → IsLent g old now → IsWithin g old now r → IsCommitted g m now new → IsCommitted g writes old new
-  committed-then r m writes old now new fits lent within done = record {
+  pub committed-then : (n r m writes : ℕ) (old now new : N) → 4 * r + m ≤ writes → IsLent g old now → IsWithin g old now r → IsCommitted g n m now new → IsCommitted g n writes old new
+  committed-then n r m writes old now new fits lent within done = record {
     at_rest = done.at_rest;
+    at_least = least-behind n (4 * r) (g.left old) (g.left now) (g.left new) within.left done.at_least;
     left = fell-more (4 * r + m) writes (g.left old) (g.left new) fits (fell-then (4 * r) m (g.left old) (g.left now) (g.left new) within.left done.left);
     to_come = done.to_come ∙ lent.to_come;
     ends = done.ends ∙ lent.ends;
@@ -73,9 +101,10 @@ module _ {N : Type 0} (g : Ghosts N) where
   }
 
   -- more writes than were made
-  pub committed-more : (n writes : ℕ) (old new : N) → n ≤ writes → IsCommitted g n old new → IsCommitted g writes old new
-  committed-more n writes old new fits done = record {
+  pub committed-more : (least n writes : ℕ) (old new : N) → n ≤ writes → IsCommitted g least n old new → IsCommitted g least writes old new
+  committed-more least n writes old new fits done = record {
     at_rest = done.at_rest;
+    at_least = done.at_least;
     left = fell-more n writes (g.left old) (g.left new) fits done.left;
     to_come = done.to_come;
     ends = done.ends;

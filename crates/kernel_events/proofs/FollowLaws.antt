@@ -19,7 +19,7 @@ use Rattle.kernel_image.specs.Shown.{items_of, objects_in}
 use Rattle.persistent_objects.specs.Holes.{AreHoles}
 use Rattle.replay_list.specs.Stands.{IsRow, HasContext, KernelStands, items_in, counts_in, console_in}
 use Rattle.kernel_events.specs.Follows.{Follows}
-use Rattle.replay_list.proofs.BothLaws.{both_set}
+use Rattle.replay_list.proofs.Callers.{both_set}
 use Rattle.kernel_events.proofs.SetLaws.{set-again, set-at}
 use Rattle.kernel_events.proofs.StepLaws.{run_ahead}
 

@@ -1,13 +1,13 @@
-pub mod PrintLemmas
-pub mod StepLaws
-pub mod SetLaws
-pub mod FollowLaws
-pub mod EndLaws
-pub mod ActLaws
-pub mod ArriveLaws
-pub mod ResultLaws
-pub mod ServedLaws
-pub mod BlockLaws
-pub mod AnewLaws
-pub mod GivenLaws
-pub mod BlockEndLaws
+mod PrintLemmas
+mod StepLaws
+mod SetLaws
+mod FollowLaws
+mod EndLaws
+mod ActLaws
+mod ArriveLaws
+mod ResultLaws
+mod ServedLaws
+mod BlockLaws
+mod AnewLaws
+mod GivenLaws
+mod BlockEndLaws

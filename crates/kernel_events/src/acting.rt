@@ -21,11 +21,11 @@ use crate::closing::{commit, stop};
 use crate::prints::print;
 use kernel_model::soundness;
 use nv_memory::Nv;
-use replay_list::{Kernel, standing_laws, words_used};
+use replay_list::{standing_laws, words_used};
 use thread_check::Checked;
 use thread_machine::{Contexts, Ctx};
 use thread_tree::{Item, List};
-use undo_journal::{Dark, Open};
+use undo_journal::{Dark, Idle, Open};
 
 /// The code of a thread whose records have no room for its next action.
 const NO_RECORD_ROOM: u32 = 4;
@@ -37,33 +37,32 @@ const RECORD_ROOM: u32 = 256;
 pub fn print_event<N: Nv>(
     tx: Open<N>,
     program: &Checked,
-    contexts: Contexts,
+    contexts: &mut Contexts,
     ctx: Ctx,
     thread: u32,
     number: u32,
     items: &List<Item>,
-) -> Result<Kernel<N>, Dark<N>>
+) -> Result<Idle<N>, Dark<N>>
     requires at_rest { IsAtRest (N.words tx) }
     requires thread { thread < 16 }
     requires few { length items.now ≤ 8 }
     requires here { (s : Stmt) × (place : Place) × (to : List At) × (slice_get (actions (program_of program.now)) number ≡ Some s) × (out-Stmt s ≡ stmt.Call place (call.Print items.now) to) }
-    requires arrives { (K : State) × (runner : Thread) × Arrives (program_of program.now) (image_in (N.words tx)) contexts K thread runner ctx (Action number) }
-    ensures happened { IfOk result (λ next. (K : State) (runner : Thread) → Arrives (program_of program.now) (image_in (N.words tx)) contexts K thread runner ctx (Action number)
-        → KernelStands (program_of program.now) (image_in (N.words next.idle)) next.contexts (one (program_of program.now) K Step)) }
-    ensures ends { MatchResult result (λ next. IsCommitted N.Nv 6400 tx next.idle) (IsLost N.Nv 6400 tx) }
+    requires arrives { (K : State) × (runner : Thread) × Arrives (program_of program.now) (image_in (N.words tx)) contexts.old K thread runner ctx (Action number) }
+    ensures happened { IfOk result (λ idle. (K : State) (runner : Thread) → Arrives (program_of program.now) (image_in (N.words tx)) contexts.old K thread runner ctx (Action number)
+        → KernelStands (program_of program.now) (image_in (N.words idle)) contexts.new (one (program_of program.now) K Step)) }
+    ensures ends { MatchResult result (λ idle. IsCommitted N.Nv 5 6400 tx idle) (IsLost N.Nv 6400 tx) }
 {
     soundness();
     standing_laws();
     let _ = program.tree();
     if words_used(&tx, thread) + 2 > RECORD_ROOM {
-        return stop(tx, contexts, thread, NO_RECORD_ROOM);
+        return stop(tx, thread, NO_RECORD_ROOM);
     }
     let mut tx = tx;
     let mut ctx = ctx;
-    let mut contexts = contexts;
     if print(&mut tx, program, &mut ctx, thread, items).is_err() {
         return Err(tx.lose());
     }
     contexts.set(thread, Some(ctx));
-    commit(tx, contexts)
+    commit(tx)
 }

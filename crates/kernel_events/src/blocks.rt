@@ -15,6 +15,7 @@ ghost use Rattle.thread_tree.specs.Program.{program_of};
 ghost use Rattle.thread_machine.specs.declared.next.Next.TheVariants.{Action};
 ghost use Rattle.thread_machine.specs.Context.{local_of};
 ghost use Rattle.thread_machine.specs.Reached.{IsContext};
+ghost use Rattle.kernel_image.specs.Cells.{FellAtLeast};
 ghost use Rattle.kernel_image.specs.Decoded.{image_in, row_at};
 ghost use Rattle.kernel_model.specs.declared.event.Event.TheVariants.{Step};
 ghost use Rattle.kernel_model.specs.Kernel.{State, Thread};
@@ -32,12 +33,12 @@ use crate::serving::serve;
 use arrayvec::ArrayVec;
 use kernel_model::soundness;
 use nv_memory::{Cut, Nv};
-use replay_list::{Kernel, standing_laws, words_used};
+use replay_list::{standing_laws, words_used};
 use small_actions::small_actions;
 use thread_check::Checked;
 use thread_machine::{Contexts, Ctx};
 use thread_tree::{At, List};
-use undo_journal::{Dark, Open};
+use undo_journal::{Dark, Idle, Open};
 use user_transactions::{TxEnd, perform};
 
 /// The kind of a block, and what each word that it gives adds to its kind word.
@@ -51,12 +52,12 @@ const NO_RECORD_ROOM: u32 = 4;
 const RECORD_ROOM: u32 = 256;
 
 /// Undoes what a block did, and opens the transaction anew.
-#[tactic(auto, using(crate::proofs::AnewLaws::few_undoing, crate::proofs::AnewLaws::outside_undone, crate::proofs::EndLaws::fell_spent))]
+#[tactic(auto, using(crate::proofs::AnewLaws::few_undoing, crate::proofs::AnewLaws::outside_undone, crate::proofs::EndLaws::fell_spent, crate::proofs::EndLaws::least_none))]
 fn anew<N: Nv>(tx: Open<N>) -> Result<Open<N>, Dark<N>>
     requires room { 320 ≤ room_of (N.words tx) }
     ensures words { IfOk result (λ next. outside (N.words next) ≡ durable (N.words tx)) }
     ensures room { IfOk result (λ next. room_of (N.words next) ≡ 1280) }
-    ensures ends { MatchResult result (λ next. IsCommitted N.Nv 961 tx next) (IsLost N.Nv 961 tx) }
+    ensures ends { MatchResult result (λ next. IsCommitted N.Nv 0 961 tx next) (IsLost N.Nv 961 tx) }
 {
     match tx.undo() {
         Ok(idle) => Ok(idle.begin()),
@@ -108,6 +109,7 @@ fn conclude<N: Nv>(
     ensures context { OnOk result (IsContext (program_of program.now) ctx.new) }
     ensures cut { IsErr result → IsShort (N.left tx.old) 28 }
     ensures dark { OnErr result (N.left tx.new ≡ Some 0) }
+    ensures least { OnOk result (FellAtLeast 4 (N.left tx.old) (N.left tx.new)) }
     ensures lent { IsLent N.Nv tx.old tx.new }
     ensures within { OnOk result (IsWithin N.Nv tx.old tx.new 7) }
 {
@@ -120,12 +122,12 @@ fn conclude<N: Nv>(
 fn finish_action<N: Nv>(
     tx: Open<N>,
     program: &Checked,
-    contexts: Contexts,
+    contexts: &mut Contexts,
     ctx: Ctx,
     thread: u32,
     kind_word: u32,
     results: ArrayVec<u32, 4>,
-) -> Result<Kernel<N>, Dark<N>>
+) -> Result<Idle<N>, Dark<N>>
     requires context { IsContext (program_of program.now) ctx }
     requires action { IsSomeAnd (next_action (local_of (program_of program.now) ctx))
         (λ action. length results.items ≡ result_count action.kind action.given) }
@@ -133,13 +135,12 @@ fn finish_action<N: Nv>(
     requires events { (image_in (N.words tx)).events + 1 < 2 ^ 32 }
     requires fits { (row_at (image_in (N.words tx)) thread).used + 1 + length results.items ≤ 256 }
     requires room { 7 ≤ room_of (N.words tx) }
-    ensures recorded { IfOk result (λ next. IsRecordedEvent thread kind_word results.items (image_in (N.words tx)) (image_in (N.words next.idle))) }
-    ensures bound { IfOk result (λ next. IsBound (program_of program.now) thread results.items ctx contexts next.contexts) }
-    ensures ends { MatchResult result (λ next. IsCommitted N.Nv 29 tx next.idle) (IsLost N.Nv 29 tx) }
+    ensures recorded { IfOk result (λ idle. IsRecordedEvent thread kind_word results.items (image_in (N.words tx)) (image_in (N.words idle))) }
+    ensures bound { OnOk result (IsBound (program_of program.now) thread results.items ctx contexts.old contexts.new) }
+    ensures ends { MatchResult result (λ idle. IsCommitted N.Nv 5 29 tx idle) (IsLost N.Nv 29 tx) }
 {
     let mut tx = tx;
     let mut ctx = ctx;
-    let mut contexts = contexts;
     if conclude(
         &mut tx,
         program,
@@ -153,8 +154,8 @@ fn finish_action<N: Nv>(
         return Err(tx.lose());
     }
     contexts.set(thread, Some(ctx));
-    match commit(tx, contexts) {
-        Ok(next) => Ok(next),
+    match commit(tx) {
+        Ok(idle) => Ok(idle),
         Err(dark) => Err(dark),
     }
 }
@@ -172,21 +173,21 @@ fn given_by(to: &List<At>) -> u32
 fn perform_block<N: Nv>(
     tx: Open<N>,
     program: &Checked,
-    contexts: Contexts,
+    contexts: &mut Contexts,
     ctx: Ctx,
     thread: u32,
     number: u32,
     given: u32,
-) -> Result<Kernel<N>, Dark<N>>
+) -> Result<Idle<N>, Dark<N>>
     requires at_rest { IsAtRest (N.words tx) }
     requires thread { thread < 16 }
     requires few { given ≤ 3 }
     requires fits { (row_at (image_in (N.words tx)) thread).used + 2 + given ≤ 256 }
     requires here { (s : Stmt) × (place : Place) × (to : List At) × (body : TBlock) × (slice_get (actions (program_of program.now)) number ≡ Some s) × (out-Stmt s ≡ stmt.Atomic place to body) × (given ≡ length to - 1) × IsTrue (is_served_tblock body) × (block_gives given body ≡ true) }
-    requires arrives { (K : State) × (runner : Thread) × Arrives (program_of program.now) (image_in (N.words tx)) contexts K thread runner ctx (Action number) }
-    ensures happened { IfOk result (λ next. (K : State) (runner : Thread) → Arrives (program_of program.now) (image_in (N.words tx)) contexts K thread runner ctx (Action number)
-        → KernelStands (program_of program.now) (image_in (N.words next.idle)) next.contexts (one (program_of program.now) K Step)) }
-    ensures ends { MatchResult result (λ next. IsCommitted N.Nv 6400 tx next.idle) (IsLost N.Nv 6400 tx) }
+    requires arrives { (K : State) × (runner : Thread) × Arrives (program_of program.now) (image_in (N.words tx)) contexts.old K thread runner ctx (Action number) }
+    ensures happened { IfOk result (λ idle. (K : State) (runner : Thread) → Arrives (program_of program.now) (image_in (N.words tx)) contexts.old K thread runner ctx (Action number)
+        → KernelStands (program_of program.now) (image_in (N.words idle)) contexts.new (one (program_of program.now) K Step)) }
+    ensures ends { MatchResult result (λ idle. IsCommitted N.Nv 5 6400 tx idle) (IsLost N.Nv 6400 tx) }
 {
     soundness();
     standing_laws();
@@ -216,7 +217,7 @@ fn perform_block<N: Nv>(
             }
         }
         Ok(TxEnd::Fault(code)) => match anew(tx) {
-            Ok(tx) => stop(tx, contexts, thread, code),
+            Ok(tx) => stop(tx, thread, code),
             Err(dark) => Err(dark),
         },
     }
@@ -226,26 +227,26 @@ fn perform_block<N: Nv>(
 pub fn block_event<N: Nv>(
     tx: Open<N>,
     program: &Checked,
-    contexts: Contexts,
+    contexts: &mut Contexts,
     ctx: Ctx,
     thread: u32,
     number: u32,
     to: &List<At>,
-) -> Result<Kernel<N>, Dark<N>>
+) -> Result<Idle<N>, Dark<N>>
     requires at_rest { IsAtRest (N.words tx) }
     requires thread { thread < 16 }
     requires few { length to.now ≤ 4 }
     requires here { (s : Stmt) × (place : Place) × (body : TBlock) × (slice_get (actions (program_of program.now)) number ≡ Some s) × (out-Stmt s ≡ stmt.Atomic place to.now body) × IsTrue (is_served_tblock body) × (block_gives (length to.now - 1) body ≡ true) }
-    requires arrives { (K : State) × (runner : Thread) × Arrives (program_of program.now) (image_in (N.words tx)) contexts K thread runner ctx (Action number) }
-    ensures happened { IfOk result (λ next. (K : State) (runner : Thread) → Arrives (program_of program.now) (image_in (N.words tx)) contexts K thread runner ctx (Action number)
-        → KernelStands (program_of program.now) (image_in (N.words next.idle)) next.contexts (one (program_of program.now) K Step)) }
-    ensures ends { MatchResult result (λ next. IsCommitted N.Nv 6400 tx next.idle) (IsLost N.Nv 6400 tx) }
+    requires arrives { (K : State) × (runner : Thread) × Arrives (program_of program.now) (image_in (N.words tx)) contexts.old K thread runner ctx (Action number) }
+    ensures happened { IfOk result (λ idle. (K : State) (runner : Thread) → Arrives (program_of program.now) (image_in (N.words tx)) contexts.old K thread runner ctx (Action number)
+        → KernelStands (program_of program.now) (image_in (N.words idle)) contexts.new (one (program_of program.now) K Step)) }
+    ensures ends { MatchResult result (λ idle. IsCommitted N.Nv 5 6400 tx idle) (IsLost N.Nv 6400 tx) }
 {
     soundness();
     let _ = program.tree();
     let given = given_by(to);
     if words_used(&tx, thread) + 2 + given > RECORD_ROOM {
-        return stop(tx, contexts, thread, NO_RECORD_ROOM);
+        return stop(tx, thread, NO_RECORD_ROOM);
     }
     perform_block(tx, program, contexts, ctx, thread, number, given)
 }

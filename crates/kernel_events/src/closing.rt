@@ -3,24 +3,22 @@ ghost use Rattle.std.specs.Prelude.{◌≡◌, ◌+◌, ◌<◌, ◌≤◌, ◌^
 ghost use Rattle.nv_memory.specs.Budget.{IsShort};
 ghost use Rattle.undo_journal.specs.Undo.{room_of};
 ghost use Rattle.undo_journal.specs.Lending.{IsLent, IsWithin};
+ghost use Rattle.kernel_image.specs.Cells.{FellAtLeast};
 ghost use Rattle.kernel_image.specs.Decoded.{image_in, row_at, with_row};
 ghost use Rattle.kernel_events.specs.Ends.{IsCommitted, IsLost};
 
 use crate::ending::{count, end};
 use nv_memory::{Cut, Nv};
-use replay_list::Kernel;
-use thread_machine::Contexts;
-use undo_journal::{Dark, Open};
+use undo_journal::{Dark, Idle, Open};
 
 /// Commits an event.
-#[tactic(auto, using(crate::proofs::EndLaws::fell_spent, crate::proofs::EndLaws::image_outside))]
-pub fn commit<N: Nv>(tx: Open<N>, contexts: Contexts) -> Result<Kernel<N>, Dark<N>>
-    ensures image { IfOk result (λ next. image_in (N.words next.idle) ≡ image_in (N.words tx)) }
-    ensures contexts { IfOk result (λ next. next.contexts ≡ contexts) }
-    ensures ends { MatchResult result (λ next. IsCommitted N.Nv 1 tx next.idle) (IsLost N.Nv 1 tx) }
+#[tactic(auto, using(crate::proofs::EndLaws::fell_spent, crate::proofs::EndLaws::least_spent, crate::proofs::EndLaws::image_outside))]
+pub fn commit<N: Nv>(tx: Open<N>) -> Result<Idle<N>, Dark<N>>
+    ensures image { IfOk result (λ idle. image_in (N.words idle) ≡ image_in (N.words tx)) }
+    ensures ends { MatchResult result (λ idle. IsCommitted N.Nv 1 1 tx idle) (IsLost N.Nv 1 tx) }
 {
     match tx.commit() {
-        Ok(idle) => Ok(Kernel { idle, contexts }),
+        Ok(idle) => Ok(idle),
         Err(dark) => Err(dark),
     }
 }
@@ -35,6 +33,7 @@ pub fn halt<N: Nv>(tx: &mut Open<N>, thread: u32, code: u32) -> Result<(), Cut>
         (record (row_at (image_in (N.words tx.old)) thread) { state = 4; code = code })) }
     ensures cut { IsErr result → IsShort (N.left tx.old) 12 }
     ensures dark { OnErr result (N.left tx.new ≡ Some 0) }
+    ensures least { OnOk result (FellAtLeast 4 (N.left tx.old) (N.left tx.new)) }
     ensures lent { IsLent N.Nv tx.old tx.new }
     ensures within { OnOk result (IsWithin N.Nv tx.old tx.new 3) }
 {
@@ -44,46 +43,39 @@ pub fn halt<N: Nv>(tx: &mut Open<N>, thread: u32, code: u32) -> Result<(), Cut>
 }
 
 /// An event in which a thread ends.
-pub fn stop<N: Nv>(
-    tx: Open<N>,
-    contexts: Contexts,
-    thread: u32,
-    code: u32,
-) -> Result<Kernel<N>, Dark<N>>
+pub fn stop<N: Nv>(tx: Open<N>, thread: u32, code: u32) -> Result<Idle<N>, Dark<N>>
     requires thread { thread < 16 }
     requires events { (image_in (N.words tx)).events + 1 < 2 ^ 32 }
     requires room { 3 ≤ room_of (N.words tx) }
-    ensures stopped { IfOk result (λ next. image_in (N.words next.idle)
+    ensures stopped { IfOk result (λ idle. image_in (N.words idle)
         ≡ with_row (record (image_in (N.words tx)) { events = (image_in (N.words tx)).events + 1 }) thread
         (record (row_at (image_in (N.words tx)) thread) { state = 4; code = code })) }
-    ensures contexts { IfOk result (λ next. next.contexts ≡ contexts) }
-    ensures ends { MatchResult result (λ next. IsCommitted N.Nv 13 tx next.idle) (IsLost N.Nv 13 tx) }
+    ensures ends { MatchResult result (λ idle. IsCommitted N.Nv 5 13 tx idle) (IsLost N.Nv 13 tx) }
 {
     let mut tx = tx;
     if halt(&mut tx, thread, code).is_err() {
         return Err(tx.lose());
     }
-    match commit(tx, contexts) {
-        Ok(next) => Ok(next),
+    match commit(tx) {
+        Ok(idle) => Ok(idle),
         Err(dark) => Err(dark),
     }
 }
 
 /// An event in which nobody runs.
-pub fn pass<N: Nv>(tx: Open<N>, contexts: Contexts) -> Result<Kernel<N>, Dark<N>>
+pub fn pass<N: Nv>(tx: Open<N>) -> Result<Idle<N>, Dark<N>>
     requires events { (image_in (N.words tx)).events + 1 < 2 ^ 32 }
     requires room { 1 ≤ room_of (N.words tx) }
-    ensures counted { IfOk result (λ next. image_in (N.words next.idle)
+    ensures counted { IfOk result (λ idle. image_in (N.words idle)
         ≡ record (image_in (N.words tx)) { events = (image_in (N.words tx)).events + 1 }) }
-    ensures contexts { IfOk result (λ next. next.contexts ≡ contexts) }
-    ensures ends { MatchResult result (λ next. IsCommitted N.Nv 5 tx next.idle) (IsLost N.Nv 5 tx) }
+    ensures ends { MatchResult result (λ idle. IsCommitted N.Nv 5 5 tx idle) (IsLost N.Nv 5 tx) }
 {
     let mut tx = tx;
     if count(&mut tx).is_err() {
         return Err(tx.lose());
     }
-    match commit(tx, contexts) {
-        Ok(next) => Ok(next),
+    match commit(tx) {
+        Ok(idle) => Ok(idle),
         Err(dark) => Err(dark),
     }
 }

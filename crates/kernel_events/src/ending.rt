@@ -22,6 +22,7 @@ pub fn count<N: Nv>(tx: &mut Open<N>) -> Result<(), Cut>
         ≡ record (image_in (N.words tx.old)) { events = (image_in (N.words tx.old)).events + 1 }) }
     ensures cut { IsErr result → IsShort (N.left tx.old) 4 }
     ensures dark { OnErr result (N.left tx.new ≡ Some 0) }
+    ensures least { OnOk result (FellAtLeast 4 (N.left tx.old) (N.left tx.new)) }
     ensures lent { IsLent N.Nv tx.old tx.new }
     ensures within { OnOk result (IsWithin N.Nv tx.old tx.new 1) }
 {

@@ -12,4 +12,4 @@ mod running;
 mod serving;
 mod stepping;
 
-pub use stepping::event;
+pub use stepping::{event, happen};

@@ -13,6 +13,7 @@ ghost use Rattle.thread_tree.specs.LocalState.{bind, next_action};
 ghost use Rattle.thread_tree.specs.Program.{program_of};
 ghost use Rattle.thread_machine.specs.Context.{local_of};
 ghost use Rattle.thread_machine.specs.Reached.{IsContext};
+ghost use Rattle.kernel_image.specs.Cells.{FellAtLeast};
 ghost use Rattle.kernel_image.specs.Decoded.{image_in, row_at};
 ghost use Rattle.kernel_model.specs.Act.{printed_line};
 ghost use Rattle.kernel_events.specs.Actions.{IsPrinted, print_action};
@@ -53,6 +54,7 @@ pub fn print<N: Nv>(
     ensures context { OnOk result (IsContext (program_of program.now) ctx.new) }
     ensures cut { IsErr result → IsShort (N.left tx.old) 560 }
     ensures dark { OnErr result (N.left tx.new ≡ Some 0) }
+    ensures least { OnOk result (FellAtLeast 4 (N.left tx.old) (N.left tx.new)) }
     ensures lent { IsLent N.Nv tx.old tx.new }
     ensures within { OnOk result (IsWithin N.Nv tx.old tx.new 140) }
 {

@@ -19,14 +19,14 @@ use crate::blocks::block_event;
 use crate::closing::stop;
 use kernel_model::{order, soundness};
 use nv_memory::Nv;
-use replay_list::{Kernel, standing_laws};
+use replay_list::standing_laws;
 use served_program::served_laws;
 use small_actions::small_actions;
 use std::sync::ledger::Ledger;
 use step_counter::Steps;
 use thread_check::Checked;
 use thread_machine::{Contexts, Ctx, Next};
-use undo_journal::{Dark, Open};
+use undo_journal::{Dark, Idle, Open};
 
 /// The codes of a thread that comes to its end, and of one that makes too many moves.
 const ORDINARY_END: u32 = 0;
@@ -37,18 +37,18 @@ const WATCHDOG: u32 = 1;
 fn act<N: Nv>(
     tx: Open<N>,
     program: &Checked,
-    contexts: Contexts,
+    contexts: &mut Contexts,
     ctx: Ctx,
     thread: u32,
     number: u32,
-) -> Result<Kernel<N>, Dark<N>>
+) -> Result<Idle<N>, Dark<N>>
     requires at_rest { IsAtRest (N.words tx) }
     requires served { IsTrue (is_served program.now) }
     requires thread { thread < 16 }
-    requires arrives { (K : State) × (runner : Thread) × Arrives (program_of program.now) (image_in (N.words tx)) contexts K thread runner ctx (Action number) }
-    ensures happened { IfOk result (λ next. (K : State) (runner : Thread) → Arrives (program_of program.now) (image_in (N.words tx)) contexts K thread runner ctx (Action number)
-        → KernelStands (program_of program.now) (image_in (N.words next.idle)) next.contexts (one (program_of program.now) K Step)) }
-    ensures ends { MatchResult result (λ next. IsCommitted N.Nv 6400 tx next.idle) (IsLost N.Nv 6400 tx) }
+    requires arrives { (K : State) × (runner : Thread) × Arrives (program_of program.now) (image_in (N.words tx)) contexts.old K thread runner ctx (Action number) }
+    ensures happened { IfOk result (λ idle. (K : State) (runner : Thread) → Arrives (program_of program.now) (image_in (N.words tx)) contexts.old K thread runner ctx (Action number)
+        → KernelStands (program_of program.now) (image_in (N.words idle)) contexts.new (one (program_of program.now) K Step)) }
+    ensures ends { MatchResult result (λ idle. IsCommitted N.Nv 5 6400 tx idle) (IsLost N.Nv 6400 tx) }
 {
     served_laws();
     small_actions();
@@ -67,17 +67,17 @@ fn act<N: Nv>(
 pub fn run<N: Nv, L: Ledger>(
     tx: Open<N>,
     program: &Checked,
-    contexts: Contexts,
+    contexts: &mut Contexts,
     thread: u32,
     steps: &mut Steps<L>,
-) -> Result<Kernel<N>, Dark<N>>
+) -> Result<Idle<N>, Dark<N>>
     requires at_rest { IsAtRest (N.words tx) }
     requires served { IsTrue (is_served program.now) }
     requires thread { thread < 16 }
-    requires stands { (K : State) × KernelStands (program_of program.now) (image_in (N.words tx)) contexts K × (K.events < 1000000) × (chosen K ≡ Some thread) }
-    ensures happened { IfOk result (λ next. (K : State) → KernelStands (program_of program.now) (image_in (N.words tx)) contexts K → K.events < 1000000 → chosen K ≡ Some thread
-        → KernelStands (program_of program.now) (image_in (N.words next.idle)) next.contexts (one (program_of program.now) K Step)) }
-    ensures ends { MatchResult result (λ next. IsCommitted N.Nv 6400 tx next.idle) (IsLost N.Nv 6400 tx) }
+    requires stands { (K : State) × KernelStands (program_of program.now) (image_in (N.words tx)) contexts.old K × (K.events < 1000000) × (chosen K ≡ Some thread) }
+    ensures happened { IfOk result (λ idle. (K : State) → KernelStands (program_of program.now) (image_in (N.words tx)) contexts.old K → K.events < 1000000 → chosen K ≡ Some thread
+        → KernelStands (program_of program.now) (image_in (N.words idle)) contexts.new (one (program_of program.now) K Step)) }
+    ensures ends { MatchResult result (λ idle. IsCommitted N.Nv 5 6400 tx idle) (IsLost N.Nv 6400 tx) }
     ensures counted { steps.old ≤ steps.new }
     ensures steps { steps.new ≤ steps.old + 10000 }
 {
@@ -85,13 +85,12 @@ pub fn run<N: Nv, L: Ledger>(
     order();
     standing_laws();
     let _ = program.tree();
-    let mut contexts = contexts;
     match contexts.take(thread) {
         Some(ctx) => {
             let mut ctx = ctx;
             match ctx.ahead(program, steps) {
-                Next::Finished => stop(tx, contexts, thread, ORDINARY_END),
-                Next::Watchdog => stop(tx, contexts, thread, WATCHDOG),
+                Next::Finished => stop(tx, thread, ORDINARY_END),
+                Next::Watchdog => stop(tx, thread, WATCHDOG),
                 Next::Action(number) => act(tx, program, contexts, ctx, thread, number),
             }
         }

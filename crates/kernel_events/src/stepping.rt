@@ -19,7 +19,43 @@ use replay_list::{Kernel, standing_laws};
 use std::sync::ledger::Ledger;
 use step_counter::Steps;
 use thread_check::Checked;
-use undo_journal::Dark;
+use thread_machine::Contexts;
+use undo_journal::{Dark, Idle};
+
+/// One event of the uncut run, in one transaction (docs/EVENTS.md), on a kernel whose contexts are lent. Today it is a
+/// step of a program that is served.
+///
+/// # Errors
+///
+/// The device without power, where fewer writes were left than an event may take; its undone words are as before. The
+/// contexts mean nothing then.
+pub fn happen<N: Nv, L: Ledger>(
+    idle: Idle<N>,
+    program: &Checked,
+    contexts: &mut Contexts,
+    event: Event,
+    steps: &mut Steps<L>,
+) -> Result<Idle<N>, Dark<N>>
+    requires at_rest { IsAtRest (N.words idle) }
+    requires served { IsTrue (is_served program.now) }
+    requires step { event ≡ Step }
+    requires stands { (K : State) × KernelStands (program_of program.now) (image_in (N.words idle)) contexts.old K × (K.events < 1000000) }
+    ensures happened { IfOk result (λ next. (K : State) → KernelStands (program_of program.now) (image_in (N.words idle)) contexts.old K → K.events < 1000000
+        → KernelStands (program_of program.now) (image_in (N.words next)) contexts.new (one (program_of program.now) K event)) }
+    ensures ends { MatchResult result (λ next. IsCommitted N.Nv 5 6400 idle next) (IsLost N.Nv 6400 idle) }
+    ensures counted { steps.old ≤ steps.new }
+    ensures steps { steps.new ≤ steps.old + 10000 }
+{
+    soundness();
+    standing_laws();
+    let _ = program.tree();
+    let _ = event;
+    let tx = idle.begin();
+    match chosen(&tx) {
+        Some(thread) => run(tx, program, contexts, thread, steps),
+        None => pass(tx),
+    }
+}
 
 /// One event of the uncut run, in one transaction (docs/EVENTS.md). Today it is a step of a program that is served.
 ///
@@ -38,18 +74,14 @@ pub fn event<N: Nv, L: Ledger>(
     requires stands { (K : State) × KernelStands (program_of program.now) (image_in (N.words kernel.idle)) kernel.contexts K × (K.events < 1000000) }
     ensures happened { IfOk result (λ next. (K : State) → KernelStands (program_of program.now) (image_in (N.words kernel.idle)) kernel.contexts K → K.events < 1000000
         → KernelStands (program_of program.now) (image_in (N.words next.idle)) next.contexts (one (program_of program.now) K event)) }
-    ensures ends { MatchResult result (λ next. IsCommitted N.Nv 6400 kernel.idle next.idle) (IsLost N.Nv 6400 kernel.idle) }
+    ensures ends { MatchResult result (λ next. IsCommitted N.Nv 5 6400 kernel.idle next.idle) (IsLost N.Nv 6400 kernel.idle) }
     ensures counted { steps.old ≤ steps.new }
     ensures steps { steps.new ≤ steps.old + 10000 }
 {
-    soundness();
-    standing_laws();
-    let _ = program.tree();
-    let _ = event;
     let Kernel { idle, contexts } = kernel;
-    let tx = idle.begin();
-    match chosen(&tx) {
-        Some(thread) => run(tx, program, contexts, thread, steps),
-        None => pass(tx, contexts),
+    let mut contexts = contexts;
+    match happen(idle, program, &mut contexts, event, steps) {
+        Ok(idle) => Ok(Kernel { idle, contexts }),
+        Err(dark) => Err(dark),
     }
 }

@@ -4,7 +4,7 @@ use Rattle.std.proofs.Math.Path.{fun_ext}
 use Rattle.std.proofs.lemmas.Bool.Decides.{nat_tests}
 use Rattle.std.specs.Prelude.{slice_index, IsTrue}
 use Rattle.std.proofs.lemmas.Bool.{false≢true}
-use Rattle.undo_journal.proofs.Outside.{outside-plain}
+use Rattle.undo_journal.proofs.Callers.{outside-plain}
 use Rattle.undo_journal.specs.Undo.{outside, with_word, IsPlain}
 use Rattle.kernel_image.specs.declared.cell.Cell.{Cell}
 use Rattle.kernel_image.specs.declared.cell.Cell.TheVariants.{Header, QueueWord, QueueItem, SemaphoreWord, RowWord, StartValue, RecordWord, ConsoleWord, HeapWord, LiveWord}

@@ -4,7 +4,7 @@ use Rattle.std.proofs.lemmas.Bool.Decides.{nat_tests}
 use Rattle.std.specs.Prelude.{map, nat_lt, ◌&&◌, slice_get, Some}
 use Rattle.std.specs.List.{enumerate_from}
 use Rattle.undo_journal.specs.Undo.{outside, IsAtRest}
-use Rattle.undo_journal.proofs.Outside.{outside-plain}
+use Rattle.undo_journal.proofs.Callers.{outside-plain}
 use Rattle.kernel_model.specs.declared.what.What.TheVariants.{Send, Receive, Take}
 use Rattle.kernel_model.specs.Run.{initial}
 use Rattle.kernel_model.specs.Show as show

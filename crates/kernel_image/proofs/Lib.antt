@@ -1,17 +1,17 @@
 pub mod Callers
-pub mod CellLaws
-pub mod InitialLaws
-pub mod InitialObjects
-pub mod InitialRows
-pub mod InitialShown
-pub mod ItemLaws
-pub mod LawSets
-pub mod Frames
-pub mod Lines
-pub mod Listed
-pub mod Packed
-pub mod PartLaws
-pub mod Sorted
-pub mod StartLaws
-pub mod StoreLaws
-pub mod Walks
+mod CellLaws
+mod InitialLaws
+mod InitialObjects
+mod InitialRows
+mod InitialShown
+mod ItemLaws
+mod LawSets
+mod Frames
+mod Lines
+mod Listed
+mod Packed
+mod PartLaws
+mod Sorted
+mod StartLaws
+mod StoreLaws
+mod Walks

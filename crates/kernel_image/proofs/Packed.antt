@@ -14,7 +14,7 @@ use Rattle.thread_tree.specs.declared.tree.Tree.{Tree}
 use Rattle.thread_tree.specs.Program as program
 use Rattle.thread_tree.specs.Program.{Program, program_of, sorted}
 use Rattle.thread_tree.specs.Limits.{IsWithinLimits, kind_named}
-use Rattle.kernel_model.proofs.StartLemmas.{found}
+use Rattle.kernel_model.proofs.Callers.{found}
 use Rattle.std.specs.List.{AllByRecursion}
 use Rattle.std.proofs.lemmas.List.Elements.{recursion_from_All}
 use Rattle.std.proofs.lemmas.Option.{get_or_from_slice_get}

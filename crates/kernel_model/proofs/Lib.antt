@@ -1,20 +1,21 @@
-pub mod DumpLemmas
-pub mod RowLemmas
-pub mod OrderLemmas
-pub mod OrderLaws
-pub mod ServeLemmas
-pub mod HeldLemmas
-pub mod QueueLemmas
-pub mod CallLemmas
-pub mod ObjectLemmas
-pub mod BlockLemmas
-pub mod StartLemmas
-pub mod TickLemmas
-pub mod ActLemmas
-pub mod RunLaws
-pub mod SpotLemmas
-pub mod PlacedLemmas
-pub mod TurnLemmas
-pub mod ReliveLemmas
-pub mod ShownLaws
-pub mod PlaceLaws
+pub mod Callers
+mod DumpLemmas
+mod RowLemmas
+mod OrderLemmas
+mod OrderLaws
+mod ServeLemmas
+mod HeldLemmas
+mod QueueLemmas
+mod CallLemmas
+mod ObjectLemmas
+mod BlockLemmas
+mod StartLemmas
+mod TickLemmas
+mod ActLemmas
+mod RunLaws
+mod SpotLemmas
+mod PlacedLemmas
+mod TurnLemmas
+mod ReliveLemmas
+mod ShownLaws
+mod PlaceLaws

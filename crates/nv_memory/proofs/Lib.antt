@@ -1,1 +1,2 @@
-pub mod BlankWords
+pub mod Callers
+mod BlankWords

@@ -1,4 +1,5 @@
-pub mod WrittenLaws
-pub mod ConsumedLaws
-pub mod ReadSoFar
-pub mod AppendedLaws
+pub mod Callers
+mod WrittenLaws
+mod ConsumedLaws
+mod ReadSoFar
+mod AppendedLaws

@@ -1,4 +1,4 @@
--- Sets of laws for the crates above, to be named by `using`.
+-- What the crates above may cite of these proofs: laws, and sets of laws for `using`.
 use Rattle.persistent_heap.proofs.Kept.{holes-same, holes-with_place, holes-with_word, holes-beside, HeapBecomes-beside, HeapBecomes-taken, IsTaken-taken, IsTaken-without_block, IsTaken-behind_block, IsTaken-before_block, IsTaken-becomes, IsHeap-formatted}
 
 -- a heap whose places are all free

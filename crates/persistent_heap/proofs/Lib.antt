@@ -1,13 +1,13 @@
 pub mod Callers
-pub mod Chain
-pub mod Changed
-pub mod GivenBack
-pub mod Held
-pub mod Kept
-pub mod Least
-pub mod Lists
-pub mod Parts
-pub mod Places
-pub mod Taken
-pub mod Unique
-pub mod Walks
+mod Chain
+mod Changed
+mod GivenBack
+mod Held
+mod Kept
+mod Least
+mod Lists
+mod Parts
+mod Places
+mod Taken
+mod Unique
+mod Walks

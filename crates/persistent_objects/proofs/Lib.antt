@@ -1,12 +1,13 @@
-pub mod ClauseLaws
-pub mod FieldLaws
-pub mod FoundLaws
-pub mod Given
-pub mod HoleLaws
-pub mod ImageLaws
-pub mod LawSets
-pub mod Listed
-pub mod NumberLaws
-pub mod Packed
-pub mod StaticLaws
-pub mod StoreLaws
+mod ClauseLaws
+mod FieldLaws
+mod FormattedLaws
+mod FoundLaws
+mod Given
+mod HoleLaws
+mod ImageLaws
+mod LawSets
+mod Listed
+mod NumberLaws
+mod Packed
+mod StaticLaws
+mod StoreLaws

@@ -1,3 +1,3 @@
 mod Agreeing
 mod BestLaws
-pub mod LawSets
+mod LawSets

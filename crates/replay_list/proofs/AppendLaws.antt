@@ -5,7 +5,7 @@ use Rattle.std.proofs.lemmas.List.Edits.{paste_more}
 use Rattle.std.proofs.Math.Seq.{paste, take-append-add, take-append_seam}
 use Rattle.kernel_image.specs.declared.cell.Cell.{Cell}
 use Rattle.kernel_image.specs.Decoded.{Decoded, RowWords, decoded_of, row_at, with_row}
-use Rattle.kernel_image.proofs.StoreLaws.{row_at-with_row, with_row-again}
+use Rattle.kernel_image.proofs.Callers.{row_at-with_row, with_row-again}
 use Rattle.replay_list.specs.Records.{recorded, IsAppended}
 use Rattle.replay_list.proofs.WordLaws.{record_words_many}
 

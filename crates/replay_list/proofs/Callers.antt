@@ -1,9 +1,12 @@
--- Sets of laws for the crates above, to be named by `using` or in answers.
-use Rattle.replay_list.proofs.BothLaws.{both_length, both_get, both_get_or, both_set, both_set_right, both_weaker, both_map}
-use Rattle.replay_list.proofs.ShownLaws.{rows_agree, shows_parts}
-use Rattle.replay_list.proofs.LifeLaws.{encoded_more, life_more, life_kept, agrees_recorded, agrees_ended}
+-- What the crates above may cite of these proofs: laws, and sets of laws for `using`.
+pub use Rattle.replay_list.proofs.BothLaws.{both_get_or, both_length, both_set}
+pub use Rattle.replay_list.proofs.LifeLaws.{agrees_recorded, agrees_ended}
+pub use Rattle.replay_list.proofs.RowLaws.{row_live}
+pub use Rattle.replay_list.proofs.ShownLaws.{shows_parts, rows_agree}
+use Rattle.replay_list.proofs.BothLaws.{both_get, both_set_right, both_weaker, both_map}
+use Rattle.replay_list.proofs.LifeLaws.{encoded_more, life_more, life_kept}
 use Rattle.replay_list.proofs.CountLaws.{counts_records}
-use Rattle.replay_list.proofs.RowLaws.{row_live, context_live, context_served, context_ended, records_live}
+use Rattle.replay_list.proofs.RowLaws.{context_live, context_served, context_ended, records_live}
 use Rattle.replay_list.proofs.KeptLaws.{kept_at_rest, kept_durable, kept_counter}
 
 -- two lists, element by element

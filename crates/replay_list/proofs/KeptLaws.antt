@@ -3,7 +3,7 @@ use Rattle.std.proofs.Common.{◌≡◌, ℕ, ◌==◌, List, ap, sym, subst, �
 use Rattle.std.proofs.lemmas.Bool.{cond_both, false≢true}
 use Rattle.std.specs.Prelude.{slice_index}
 use Rattle.undo_journal.specs.Undo.{magic, durable, IsAtRest, IsJournalled}
-use Rattle.undo_journal.proofs.Undone.{durable-at_rest, IsJournalled-at_rest}
+use Rattle.undo_journal.proofs.Callers.{durable-at_rest, IsJournalled-at_rest}
 use Rattle.thread_tree.specs.Program.{Program}
 use Rattle.kernel_model.specs.Kernel.{State}
 use Rattle.kernel_model.specs.Run.{initial}

@@ -1,5 +1,5 @@
 -- Sets of laws, by what they are for.
-use Rattle.kernel_image.proofs.StoreLaws.{row_at-decoded}
+use Rattle.kernel_image.proofs.Callers.{row_at-decoded}
 use Rattle.replay_list.proofs.KindLaws.{results_of_none}
 use Rattle.replay_list.proofs.WordLaws.{record_word_at, record_words_many, words_more}
 use Rattle.replay_list.proofs.RecordLaws.{counted_none, counted_more, counted_all}

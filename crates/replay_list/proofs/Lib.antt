@@ -1,13 +1,14 @@
-pub mod LawSets
-pub mod KindLaws
-pub mod WordLaws
-pub mod RecordLaws
-pub mod AppendLaws
-pub mod BothLaws
-pub mod ShownLaws
-pub mod LifeLaws
-pub mod KeptLaws
-pub mod CountLaws
-pub mod RowLaws
-pub mod StandsAt
 pub mod Callers
+mod ArrivedLaws
+mod LawSets
+mod KindLaws
+mod WordLaws
+mod RecordLaws
+mod AppendLaws
+mod BothLaws
+mod ShownLaws
+mod LifeLaws
+mod KeptLaws
+mod CountLaws
+mod RowLaws
+mod StandsAt

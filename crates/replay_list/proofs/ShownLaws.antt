@@ -13,7 +13,7 @@ use Rattle.kernel_model.specs.Show.{visible}
 use Rattle.kernel_image.specs.Agree.{Agrees, Both}
 use Rattle.kernel_image.specs.Decoded.{Decoded, RowWords, queue_at, semaphore_at}
 use Rattle.kernel_image.specs.Shown.{items_of, objects_in, shown, shown_queue, shown_semaphore}
-use Rattle.kernel_image.proofs.Lines.{rows-agree, ready_lists-agree, timed-agree, waiting-agree}
+use Rattle.kernel_image.proofs.Callers.{rows-agree, ready_lists-agree, timed-agree, waiting-agree}
 use Rattle.replay_list.specs.Stands.{IsRow, items_in, counts_in, console_in}
 use Rattle.replay_list.proofs.BothLaws.{both_weaker}
 

@@ -6,7 +6,7 @@ use Rattle.std.proofs.lemmas.List.FromFn.{get_or-map-range_with_len, length-map-
 use Rattle.kernel_image.specs.declared.cell.Cell.{Cell}
 use Rattle.kernel_image.specs.declared.cell.Cell.TheVariants.{RecordWord}
 use Rattle.kernel_image.specs.Decoded.{RowWords, listed, decoded_of, row_at}
-use Rattle.kernel_image.proofs.StoreLaws.{row_at-decoded}
+use Rattle.kernel_image.proofs.Callers.{row_at-decoded}
 
 -- a row has 256 of them, and each is the word of its cell
 pub record_word_at : (word : Cell → ℕ) (t i : ℕ) → t < 16 → i < 256 → slice_index (row_at (decoded_of word) t).records i ≡ word (RecordWord t i)

@@ -1,18 +1,19 @@
-pub mod TreeLaws
-pub mod SameBare
-pub mod Choices
-pub mod MoveLaws
-pub mod AheadLaws
-pub mod BlockLaws
-pub mod OrderLaws
-pub mod RowLaws
-pub mod CallLaws
-pub mod ActLaws
-pub mod RunLaws
-pub mod SpotLaws
-pub mod ReliveLaws
-pub mod ProgramLaws
-pub mod ShownLaws
-pub mod AlikeLaws
-pub mod WorkedLaws
-pub mod BareSame
+pub mod Callers
+mod TreeLaws
+mod SameBare
+mod Choices
+mod MoveLaws
+mod AheadLaws
+mod BlockLaws
+mod OrderLaws
+mod RowLaws
+mod CallLaws
+mod ActLaws
+mod RunLaws
+mod SpotLaws
+mod ReliveLaws
+mod ProgramLaws
+mod ShownLaws
+mod AlikeLaws
+mod WorkedLaws
+mod BareSame

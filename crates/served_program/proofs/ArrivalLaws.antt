@@ -24,7 +24,7 @@ use Rattle.served_program.proofs.DeclarationLaws.{IsServedTemplate, IsServedFunc
 use Rattle.served_program.proofs.MoveLaws.{AreServedThings, IsServedState, things_served, move_served, bind_served}
 
 -- an arrival at an action is one at a served action
-abbrev Arrives : Arrival → Type 0
+abbrev pub Arrives : Arrival → Type 0
 Arrives arrival = (s : Stmt) → arrival ≡ AtAction s → IsTrue (is_served_action (out-Stmt s))
 
 -- nowhere else is an arrival at an action
@@ -59,7 +59,7 @@ module _ (p : Program) where
   at_rest s (Turn statement ∷ rest) h none t e = absurd h.0
 
   -- running ahead, with all that is to do served
-  abbrev IsServedAhead : Ahead → Type 0
+  abbrev pub IsServedAhead : Ahead → Type 0
   IsServedAhead a = IsServedState a.local × Arrives a.arrival
 
   stops_served : (s : LocalState) (o : Option LocalState) → move p s ≡ o → IsServedState s → IsServedAhead (stops s o)
@@ -77,7 +77,8 @@ module _ (p : Program) where
     ahead_by_served zero s h = stops_served s (move p s) refl h
     ahead_by_served (suc n) s h = goes_on_served (λ next. ahead_by p n next) s (move p s) refl h (move_served p s functions h) (λ next g. ahead_by_served n next g)
 
-    ahead_served : (s : LocalState) → IsServedState s → IsServedAhead (ahead p s)
+    -- a thread that runs ahead arrives at a served action, if at an action, and what is to do then is served
+    pub ahead_served : (s : LocalState) → IsServedState s → IsServedAhead (ahead p s)
     ahead_served s h = ahead_by_served 10000 s h
 
 -- what is at a place of a list

@@ -1,9 +1,9 @@
-pub mod Steps
-pub mod ServedLaws
-pub mod StartLaws
-pub mod Induction
-pub mod LoopLaws
-pub mod DeclarationLaws
-pub mod MoveLaws
-pub mod ArrivalLaws
 pub mod Callers
+mod Steps
+mod ServedLaws
+mod StartLaws
+mod Induction
+mod LoopLaws
+mod DeclarationLaws
+mod MoveLaws
+mod ArrivalLaws

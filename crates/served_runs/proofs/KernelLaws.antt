@@ -24,9 +24,7 @@ use Rattle.thread_tree.specs.Program.{Program}
 use Rattle.thread_tree.specs.Ahead.{Ahead, Arrival, ahead}
 use Rattle.thread_tree.specs.Ahead.Arrival.{AtAction, Finished, Watchdog}
 use Rattle.served_program.specs.Served.{is_served_action, is_served_call}
-use Rattle.served_program.proofs.DeclarationLaws.{IsServedFunction}
-use Rattle.served_program.proofs.MoveLaws.{IsServedState, bind_served}
-use Rattle.served_runs.proofs.ArrivalLaws.{Arrives, ahead_served}
+use Rattle.served_program.proofs.Callers.{IsServedFunction, IsServedState, bind_served, Arrives, ahead_served}
 
 -- a thread that is ready, and has served things to do
 pub record IsServedThread (thread : Thread) : Type 0 where

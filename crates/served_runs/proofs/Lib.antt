@@ -1,3 +1,2 @@
-pub mod ArrivalLaws
-pub mod KernelLaws
-pub mod RunLaws
+mod KernelLaws
+mod RunLaws

@@ -11,13 +11,11 @@ use Rattle.kernel_model.specs.Order.{in_order, Numbered}
 use Rattle.kernel_model.specs.Calls.{born}
 use Rattle.kernel_model.specs.Run.{row_count, counted, one, start_row, start_rows, initial, on, after}
 use Rattle.kernel_model.specs.Show.{wake_tick, timed_list}
-use Rattle.kernel_model.proofs.OrderLemmas.{threads_from}
+use Rattle.kernel_model.proofs.Callers.{threads_from}
 use Rattle.thread_tree.specs.declared.tree.Tree.{Tree}
 use Rattle.thread_tree.specs.Program.{Program, Template, Start, program_of}
 use Rattle.served_program.specs.Served.{is_served}
-use Rattle.served_program.proofs.DeclarationLaws.{IsServedTemplate, Declares, served_declares}
-use Rattle.served_program.proofs.LoopLaws.{both_all}
-use Rattle.served_program.proofs.MoveLaws.{things_served}
+use Rattle.served_program.proofs.Callers.{IsServedTemplate, Declares, served_declares, both_all, things_served}
 use Rattle.served_runs.proofs.KernelLaws.{IsServedRow, AreServedRows, IsServedKernel, ready_thread, step_served}
 
 -- what is at a place of a list

@@ -1,18 +1,19 @@
-pub mod Steps
-pub mod TransactionLaws
-pub mod StatementLaws
-pub mod FewLaws
-pub mod ProgramLaws
-pub mod Induction
-pub mod ActionLaws
-pub mod CountLaws
-pub mod KeptLaws
-pub mod PeakLaws
-pub mod TransactionPeaks
-pub mod BodyPeaks
-pub mod NeedLaws
-pub mod FitLaws
-pub mod LoopLaws
-pub mod ProgramLoops
-pub mod KnownLaws
-pub mod WithinLaws
+pub mod Callers
+mod Steps
+mod TransactionLaws
+mod StatementLaws
+mod FewLaws
+mod ProgramLaws
+mod Induction
+mod ActionLaws
+mod CountLaws
+mod KeptLaws
+mod PeakLaws
+mod TransactionPeaks
+mod BodyPeaks
+mod NeedLaws
+mod FitLaws
+mod LoopLaws
+mod ProgramLoops
+mod KnownLaws
+mod WithinLaws

@@ -1,29 +1,29 @@
-pub mod ListLemmas
-pub mod ScopeLemmas
-pub mod BodyLemmas
-pub mod LevelLemmas
-pub mod StateLemmas
-pub mod MoveLemmas
-pub mod ReturnLemmas
-pub mod BreakLemmas
-pub mod CallLemmas
-pub mod RoomLemmas
-pub mod StepLemmas
-pub mod WithinLemmas
-pub mod RunLemmas
-pub mod SpotLemmas
-pub mod ReachedLemmas
+mod ListLemmas
+mod ScopeLemmas
+mod BodyLemmas
+mod LevelLemmas
+mod StateLemmas
+mod MoveLemmas
+mod ReturnLemmas
+mod BreakLemmas
+mod CallLemmas
+mod RoomLemmas
+mod StepLemmas
+mod WithinLemmas
+mod RunLemmas
+mod SpotLemmas
+mod ReachedLemmas
 mod OwnLemmas
-pub mod OperandLemmas
-pub mod BindLemmas
-pub mod Induction
-pub mod ActionLaws
-pub mod PartLemmas
-pub mod CountLemmas
-pub mod NumberLemmas
-pub mod ArrivalLemmas
-pub mod LifeLemmas
-pub mod SeekLemmas
-pub mod SkipLemmas
-pub mod InnerLemmas
-pub mod LoopLemmas
+mod OperandLemmas
+mod BindLemmas
+mod Induction
+mod ActionLaws
+mod PartLemmas
+mod CountLemmas
+mod NumberLemmas
+mod ArrivalLemmas
+mod LifeLemmas
+mod SeekLemmas
+mod SkipLemmas
+mod InnerLemmas
+mod LoopLemmas

@@ -1,28 +1,28 @@
-pub mod Tags
-pub mod Steps
-pub mod ExpressionRows
-pub mod ListRows
-pub mod StatementRows
-pub mod TransactionRows
-pub mod BlockRows
-pub mod DeclarationRows
-pub mod Taken
-pub mod Sequences
-pub mod Layers
-pub mod Made
-pub mod Finish
-pub mod Fine
-pub mod Openness
-pub mod Explained
-pub mod Worked
-pub mod BlockLaws
-pub mod Contents
-pub mod ContentsKept
-pub mod PrinterLaws
-pub mod RepeatBlocks
-pub mod RepeatCalls
-pub mod RepeatDeclarations
-pub mod RepeatExpressions
-pub mod RepeatLists
-pub mod RepeatTransactions
-pub mod RescannedLaws
+mod Tags
+mod Steps
+mod ExpressionRows
+mod ListRows
+mod StatementRows
+mod TransactionRows
+mod BlockRows
+mod DeclarationRows
+mod Taken
+mod Sequences
+mod Layers
+mod Made
+mod Finish
+mod Fine
+mod Openness
+mod Explained
+mod Worked
+mod BlockLaws
+mod Contents
+mod ContentsKept
+mod PrinterLaws
+mod RepeatBlocks
+mod RepeatCalls
+mod RepeatDeclarations
+mod RepeatExpressions
+mod RepeatLists
+mod RepeatTransactions
+mod RescannedLaws

@@ -9,7 +9,7 @@ use Rattle.thread_tree.specs.declared.tree.Decl.{Decl}
 use Rattle.thread_tree.specs.declared.tree.Tree.{Tree}
 use Rattle.thread_tokens.specs.Scan.{after, beginning, scan_of}
 use Rattle.thread_tokens.specs.Spelled.{AreNames, AreSeparated, AreTokens, Gives, Part, spelled, token_text}
-use Rattle.thread_tokens.proofs.SpelledScan.{scans_back}
+use Rattle.thread_tokens.proofs.Callers.{scans_back}
 use Rattle.thread_text.specs.Canonical.{behind_word, declaration, first_word}
 use Rattle.thread_text.specs.CanonicalText.{line, text_of}
 use Rattle.thread_text.specs.Rescanned.{IsParsed, Rescans, Respells, canonical}

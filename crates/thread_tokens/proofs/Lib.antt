@@ -1,8 +1,9 @@
-pub mod ByteLemmas
-pub mod FormLemmas
-pub mod Lists
-pub mod PieceLemmas
-pub mod ScanLemmas
-pub mod ScanOrder
-pub mod SpelledLemmas
-pub mod SpelledScan
+pub mod Callers
+mod ByteLemmas
+mod FormLemmas
+mod Lists
+mod PieceLemmas
+mod ScanLemmas
+mod ScanOrder
+mod SpelledLemmas
+mod SpelledScan

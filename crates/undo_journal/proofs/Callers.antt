@@ -1,7 +1,10 @@
--- Sets of laws for the crates above, to be named by `using`.
-use Rattle.undo_journal.proofs.Lending.{IsShort-more, IsWithin-more, IsWithin-none, IsWithin-same, IsWithin-then, IsShort-IsWithin, IsLent-same, IsLent-then}
-use Rattle.undo_journal.proofs.Outside.{outside-plain, outside-zero, outside-one}
-use Rattle.undo_journal.proofs.Undone.{undone-at_rest, durable-at_rest, IsJournalled-at_rest, IsAtRest-undone, undone-undone, durable-undone, outside-undone, durable-zero, undone-unformatted, durable-unformatted}
+-- What the crates above may cite of these proofs: laws, and sets of laws for `using`.
+pub use Rattle.undo_journal.proofs.Undone.{durable-at_rest, undone-at_rest, IsJournalled-at_rest}
+pub use Rattle.undo_journal.proofs.Lending.{IsLent-same, IsLent-then, IsWithin-none, IsWithin-more, IsWithin-then, IsShort-IsWithin}
+pub use Rattle.undo_journal.proofs.Outside.{outside-plain}
+use Rattle.undo_journal.proofs.Lending.{IsShort-more, IsWithin-same}
+use Rattle.undo_journal.proofs.Outside.{outside-zero, outside-one}
+use Rattle.undo_journal.proofs.Undone.{IsAtRest-undone, undone-undone, durable-undone, outside-undone, durable-zero, undone-unformatted, durable-unformatted}
 
 -- words at rest
 pub ruleset at_rest_laws = (undone-at_rest, durable-at_rest, IsJournalled-at_rest)

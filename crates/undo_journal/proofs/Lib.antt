@@ -1,7 +1,7 @@
 pub mod Callers
-pub mod LawSets
-pub mod Lending
-pub mod Outside
-pub mod Restoring
-pub mod Settled
-pub mod Undone
+mod LawSets
+mod Lending
+mod Outside
+mod Restoring
+mod Settled
+mod Undone

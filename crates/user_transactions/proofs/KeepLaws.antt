@@ -3,7 +3,7 @@ use Rattle.std.proofs.Common.{◌≡◌, ℕ, ◌+◌, ◌-◌, ◌*◌, ◌≤�
 use Rattle.nv_memory.specs.declared.nv.Nv.{Ghosts}
 use Rattle.nv_memory.specs.Budget.{IsShort}
 use Rattle.undo_journal.specs.Lending.{IsWithin}
-use Rattle.undo_journal.proofs.Lending.{IsLent-same, IsLent-then, IsWithin-none, IsWithin-then, IsShort-IsWithin}
+use Rattle.undo_journal.proofs.Callers.{IsLent-same, IsLent-then, IsWithin-none, IsWithin-then, IsShort-IsWithin}
 use Rattle.kernel_image.specs.Decoded.{Decoded, image_in}
 use Rattle.kernel_model.specs.Sound.{AreSoundObjects}
 use Rattle.persistent_objects.specs.Objects.{objects_of}

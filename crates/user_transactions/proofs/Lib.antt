@@ -1,10 +1,10 @@
-pub mod GiveLaws
-pub mod KeepLaws
-pub mod LeaveLaws
-pub mod LocalLaws
-pub mod MoveLaws
-pub mod PerformLaws
-pub mod ReadLaws
-pub mod RoomLaws
-pub mod RunLaws
-pub mod StoreLaws
+mod GiveLaws
+mod KeepLaws
+mod LeaveLaws
+mod LocalLaws
+mod MoveLaws
+mod PerformLaws
+mod ReadLaws
+mod RoomLaws
+mod RunLaws
+mod StoreLaws

@@ -4,7 +4,7 @@ use Rattle.std.proofs.lemmas.List.{append-nil}
 use Rattle.std.proofs.lemmas.Option.{none-some}
 use Rattle.std.specs.Prelude.{slice_get, replicate, IfSome, Option, Some, None}
 use Rattle.nv_memory.specs.declared.nv.Nv.{Ghosts}
-use Rattle.undo_journal.proofs.Lending.{IsWithin-more}
+use Rattle.undo_journal.proofs.Callers.{IsWithin-more}
 use Rattle.kernel_image.specs.Decoded.{Decoded}
 use Rattle.kernel_model.specs.Transactions.{Thing, BlockEnd, things, block, block_by}
 use Rattle.kernel_model.specs.Transactions.BlockEnd.{Gave}

@@ -1,6 +1,6 @@
 use Rattle.std.proofs.Common.{Option, ap, sym, ◌∙◌}
 use Rattle.std.specs.Option.{option_copied}
-use Rattle.outer_world.proofs.WrittenLaws.{put_nothing}
+use Rattle.outer_world.proofs.Callers.{put_nothing}
 use Rattle.outer_world.specs.Written.{put_to}
 use Rattle.thread_tree.specs.Program.{program_of}
 use Rattle.thread_machine.specs.declared.context.Ctx.{Ctx}

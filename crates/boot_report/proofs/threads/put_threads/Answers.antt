@@ -4,7 +4,7 @@ use Rattle.outer_world.specs.Written.{put_to, IsPart}
 use Rattle.thread_tree.specs.Program.{program_of}
 use Rattle.kernel_image.specs.Decoded.{image_in}
 use Rattle.kernel_model.specs.Dump.{text_of}
-use Rattle.kernel_dump.proofs.Looped.{put_none, put_next, put_part, put_all}
+use Rattle.kernel_dump.proofs.Callers.{put_none, put_next, put_part, put_all}
 use Rattle.boot_report.proofs.Rows.{context-at, lines_at, thread_lines_are}
 use Rattle.boot_report.proofs.threads.put_threads.Goals as goal
 

@@ -2,8 +2,7 @@ use Rattle.std.proofs.Common.{◌≡◌}
 use Rattle.thread_tree.specs.Program.{program_of}
 use Rattle.kernel_image.specs.Decoded.{image_in}
 use Rattle.kernel_model.specs.Dump.{text_of}
-use Rattle.kernel_dump.proofs.Looped.{lines_below, text_from}
-use Rattle.kernel_dump.proofs.PutInParts.{IsLeft}
+use Rattle.kernel_dump.proofs.Callers.{lines_below, text_from, IsLeft}
 use Rattle.boot_report.proofs.Rows.{lines_at}
 use Rattle.boot_report.proofs.threads.put_threads.Given as goal
 

@@ -1,5 +1,5 @@
 use Rattle.std.proofs.Common.{◌<◌, ◌-◌, ◌/◌, refl, arith}
-use Rattle.undo_journal.proofs.Lending.{IsLent-same, IsLent-then, IsWithin-none, IsWithin-more, IsWithin-then}
+use Rattle.undo_journal.proofs.Callers.{IsLent-same, IsLent-then, IsWithin-none, IsWithin-more, IsWithin-then}
 use Rattle.console_store.proofs.Bytes.{IsGrown-start}
 use Rattle.console_store.proofs.Images.{rest_stored, grown_stored}
 use Rattle.console_store.proofs.appending.store_words.Goals as goal

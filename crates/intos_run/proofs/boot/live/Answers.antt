@@ -6,7 +6,7 @@ use Rattle.thread_tree.specs.Program.{program_of}
 use Rattle.kernel_image.specs.Decoded.{image_in}
 use Rattle.replay_list.specs.Kept.{counter_of}
 use Rattle.kernel_boots.specs.Boots.{uncut}
-use Rattle.kernel_boots.proofs.UncutLaws.{at-most-same}
+use Rattle.kernel_boots.proofs.Callers.{at-most-same}
 use Rattle.boot_report.specs.Lines.{cut_line}
 use Rattle.intos_run.specs.Ends.{EndsDone, EndsFailed}
 use Rattle.intos_run.proofs.BootLemmas.{part_failed, whole_put, counted_at_rest, under_way_at_rest, live-end, live-cut, live-begun}

@@ -1,7 +1,7 @@
 use Rattle.std.proofs.Common.{List, ◌∙◌, ap, subst}
 use Rattle.outer_world.specs.Written.{IsPart, put_to}
 use Rattle.thread_tree.specs.Program.{program_of}
-use Rattle.undo_journal.proofs.Undone.{undone-at_rest}
+use Rattle.undo_journal.proofs.Callers.{undone-at_rest}
 use Rattle.kernel_image.specs.Decoded.{image_in}
 use Rattle.kernel_image.specs.Shown.{shown}
 use Rattle.kernel_boots.specs.Boots.{uncut}

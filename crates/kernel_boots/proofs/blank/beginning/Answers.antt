@@ -1,5 +1,5 @@
 -- No event is counted on a blank device.
-use Rattle.std.proofs.Common.{◌≡◌, ℕ, ◌∙◌, sym, subst, arith}
+use Rattle.std.proofs.Common.{◌≡◌, ◌∙◌, sym, subst, arith}
 use Rattle.std.specs.Prelude.{replicate}
 use Rattle.kernel_model.specs.declared.event.Event.TheVariants.{Step}
 use Rattle.kernel_model.specs.Run.{initial}

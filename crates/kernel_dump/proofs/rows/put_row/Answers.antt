@@ -1,5 +1,5 @@
 use Rattle.std.proofs.Common.{ℕ, List, [], ◌∷◌, ap, sym, ◌∙◌}
-use Rattle.outer_world.proofs.WrittenLaws.{put_nothing}
+use Rattle.outer_world.proofs.Callers.{put_nothing}
 use Rattle.outer_world.specs.Written.{put_to}
 use Rattle.thread_tree.specs.Program.{program_of}
 use Rattle.kernel_model.specs.Dump.{is_free, row_line, text_of}

@@ -16,8 +16,8 @@ print_event-requires-clause-few g c =
     let d = image_in (g.N.Nv.words c.args.tx) in
     let a = c.requires.arrives in
     let s = c.action-statement.result.now in
-    let life = life-here p d c.args.contexts a.0 c.args.thread a.1 c.args.ctx (Action c.args.number) a.2 in
-    let at = action-here p d c.args.contexts a.0 c.args.thread a.1 c.args.ctx c.args.number s a.2 c.action-statement.ensures in
+    let life = life-here p d c.args.contexts.now a.0 c.args.thread a.1 c.args.ctx (Action c.args.number) a.2 in
+    let at = action-here p d c.args.contexts.now a.0 c.args.thread a.1 c.args.ctx c.args.number s a.2 c.action-statement.ensures in
     let small = c.small_actions.ensures.small c.args.program.now c.tree.ensures.accepted (start_in (row_at d c.args.thread)) life.records a.1 life.relived s at in
     few-items (out-Stmt s) c.in-Some.items.now (sym c.printed_items.ensures.found ∙ ap option_copied c.in-Some.is) small
 
@@ -27,8 +27,8 @@ block_event-requires-clause-few g c =
     let d = image_in (g.N.Nv.words c.args.tx) in
     let a = c.requires.arrives in
     let s = c.action-statement.result.now in
-    let life = life-here p d c.args.contexts a.0 c.args.thread a.1 c.args.ctx (Action c.args.number) a.2 in
-    let at = action-here p d c.args.contexts a.0 c.args.thread a.1 c.args.ctx c.args.number s a.2 c.action-statement.ensures in
+    let life = life-here p d c.args.contexts.now a.0 c.args.thread a.1 c.args.ctx (Action c.args.number) a.2 in
+    let at = action-here p d c.args.contexts.now a.0 c.args.thread a.1 c.args.ctx c.args.number s a.2 c.action-statement.ensures in
     let small = c.small_actions.ensures.small c.args.program.now c.tree.ensures.accepted (start_in (row_at d c.args.thread)) life.records a.1 life.relived s at in
     few-names (out-Stmt s) c.in-Some-block_names.to.now (sym c.block_names.ensures.found ∙ ap option_copied c.in-Some-block_names.is) small
 
@@ -38,8 +38,8 @@ block_event-requires-clause-here g c =
     let d = image_in (g.N.Nv.words c.args.tx) in
     let a = c.requires.arrives in
     let s = c.action-statement.result.now in
-    let life = life-here p d c.args.contexts a.0 c.args.thread a.1 c.args.ctx (Action c.args.number) a.2 in
-    let at = action-here p d c.args.contexts a.0 c.args.thread a.1 c.args.ctx c.args.number s a.2 c.action-statement.ensures in
+    let life = life-here p d c.args.contexts.now a.0 c.args.thread a.1 c.args.ctx (Action c.args.number) a.2 in
+    let at = action-here p d c.args.contexts.now a.0 c.args.thread a.1 c.args.ctx c.args.number s a.2 c.action-statement.ensures in
     let served = c.served_laws.ensures.arrives c.args.program.now (start_in (row_at d c.args.thread)) life.records a.1 c.requires.served life.relived s at in
     let small = c.small_actions.ensures.small c.args.program.now c.tree.ensures.accepted (start_in (row_at d c.args.thread)) life.records a.1 life.relived s at in
     let to = c.in-Some-block_names.to.now in
@@ -52,7 +52,7 @@ unreachable-requires g c =
     let d = image_in (g.N.Nv.words c.args.tx) in
     let a = c.requires.arrives in
     let s = c.action-statement.result.now in
-    let life = life-here p d c.args.contexts a.0 c.args.thread a.1 c.args.ctx (Action c.args.number) a.2 in
-    let at = action-here p d c.args.contexts a.0 c.args.thread a.1 c.args.ctx c.args.number s a.2 c.action-statement.ensures in
+    let life = life-here p d c.args.contexts.now a.0 c.args.thread a.1 c.args.ctx (Action c.args.number) a.2 in
+    let at = action-here p d c.args.contexts.now a.0 c.args.thread a.1 c.args.ctx c.args.number s a.2 c.action-statement.ensures in
     let served = c.served_laws.ensures.arrives c.args.program.now (start_in (row_at d c.args.thread)) life.records a.1 c.requires.served life.relived s at in
     one-of (out-Stmt s) served (sym c.printed_items.ensures.found ∙ ap option_copied c.in-None.is) (sym c.block_names.ensures.found ∙ ap option_copied c.in-None-block_names.is)

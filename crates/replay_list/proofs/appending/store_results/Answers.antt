@@ -1,5 +1,5 @@
 use Rattle.std.proofs.Common.{arith, refl}
-use Rattle.undo_journal.proofs.Lending.{IsLent-then, IsWithin-then}
+use Rattle.undo_journal.proofs.Callers.{IsLent-then, IsWithin-then}
 use Rattle.kernel_image.specs.Cells.{present}
 use Rattle.replay_list.proofs.AppendLaws.{pasted_more}
 use Rattle.replay_list.proofs.appending.store_results.Goals as goal

@@ -6,7 +6,7 @@ use Rattle.thread_tree.specs.declared.transaction.TBlock.{out-TBlock}
 use Rattle.thread_tree.specs.declared.transaction.TStmt.{out-TStmt}
 use Rattle.kernel_model.specs.Transactions.Thing.{Do}
 use Rattle.kernel_image.specs.Decoded.{image_in}
-use Rattle.served_program.proofs.ServedLaws.{tstmts_served, tstmt_served_at}
+use Rattle.served_program.proofs.Callers.{tstmts_served, tstmt_served_at}
 use Rattle.user_transactions.specs.declared.fate.Fate.{Fate}
 use Rattle.user_transactions.specs.declared.fate.Fate.TheVariants as fate
 use Rattle.user_transactions.specs.declared.step.Step.{Step}
