@@ -6,6 +6,8 @@ ghost use Rattle.kernel_boots.specs.Boots.{IsUnderWay};
 
 use super::*;
 use console_store::{byte, length};
+use kernel_events::event;
+use kernel_model::Event;
 use nv_memory::{Nv, SimNv};
 use replay_list::Kernel;
 use served_program::is_served;
@@ -63,6 +65,47 @@ fn four_boots<N: Nv, L: Ledger>(
     again(third, program, &mut counter)
 }
 
+// One event more behind a boot of four steps.
+fn one_more<N: Nv, L: Ledger>(nv: N, program: &Checked, blank: Blank) -> Result<Kernel<N>, Dark<N>>
+    requires name { blank.name ≡ L.name }
+    requires parts { blank.parts ≡ L.parts }
+    requires some { 0 < L.parts }
+    requires blank { slice_index (N.words nv) 0 ≡ 0 }
+    requires served { IsTrue (is_served program.now) }
+{
+    beginning();
+    let mut counter = Steps::<L>::of(blank);
+    match boot(nv, program, 4, &mut counter) {
+        Ok(kernel) => match event(kernel, program, Event::Step, &mut counter) {
+            Ok(kernel) => Ok(kernel),
+            Err(dark) => Err(dark),
+        },
+        Err(dark) => Err(dark),
+    }
+}
+
+// The fifth event ends the thread: the words that count the events and hold its state and its code say so.
+fn ends<N: Nv + Drop>(rt: &impl Abort, nv: N, program: &Checked)
+    requires blank { slice_index (N.words nv) 0 ≡ 0 }
+    requires served { IsTrue (is_served program.now) }
+{
+    match one_more::<N, Brand>(nv, program, Blank::new(1)) {
+        Ok(kernel) => {
+            let Kernel { idle, contexts } = kernel;
+            assert!(rt; contexts.get(0).is_none());
+            assert_eq!(rt;
+                (idle.word(1), idle.word(1_152), idle.word(1_155)),
+                (5, 4, 0)
+            );
+            idle.rest();
+        }
+        Err(dark) => {
+            dark.leave();
+            panic!(rt; "cut")
+        }
+    }
+}
+
 // The console has these bytes, four events are committed, and the object's field is 6.
 fn shows<N: Nv + Drop>(rt: &impl Abort, kernel: Kernel<N>, console: &[u8]) {
     let Kernel { idle, contexts } = kernel;
@@ -109,6 +152,21 @@ fn blocks_over_cut_boots(rt: HostRuntime) -> Result<(), Fail> {
             assert_eq!(rt; nv.read(0), 0);
             runs(&rt, nv, &program);
         }
+        return Ok(());
+    }
+    panic!(rt; "not served")
+}
+
+#[test]
+fn an_event_behind_a_boot(rt: HostRuntime) -> Result<(), Fail> {
+    let Ok(tree) = parse(rt.alloc(), BLOCKS) else {
+        panic!(rt; "not a program")
+    };
+    let program = check(rt.alloc(), tree)?;
+    let nv = SimNv::blank(rt.alloc()).expect(&rt, "no memory");
+    assert_eq!(rt; nv.read(0), 0);
+    if is_served(&program) {
+        ends(&rt, nv, &program);
         return Ok(());
     }
     panic!(rt; "not served")

@@ -15,3 +15,6 @@ pub use loading::load;
 pub use statics::{Static, static_object};
 pub use stop::{BadReference, Stop};
 pub use storing::store;
+
+#[cfg(test)]
+mod tests;
