@@ -50,7 +50,7 @@ module _ (p q : Program) (steps : ℕ) (alike : AreAlike p q steps) where
   each : (number : ℕ) (cuts before : List ℕ) (ends : List (List ℕ)) → EachBoot (λ number. IsCutBoot p steps) number cuts before ends → EachBoot (λ number. IsCutBoot q steps) number cuts before ends
   each number cuts before [] boots = tt
   each number cuts before (left ∷ ends) boots = (
-    record { images = later before left boots.0.images; cause = boots.0.cause; progress = boots.0.progress },
+    record { images = later before left boots.0.images; cause = boots.0.cause; nothing = boots.0.nothing; progress = boots.0.progress },
     each (number + 1) (later_budgets cuts) left ends boots.1,
   )
 

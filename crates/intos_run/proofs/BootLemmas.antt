@@ -63,10 +63,14 @@ module _ (at_rest_kept : KeptAtRest) (kept_events : KeptEvents) (counts : Counts
         within = omega (arith, count, within);
       }
 
--- a recovery that was cut kept what the words were kept for
+-- a recovery that was cut kept what the words were kept for, and committed nothing
+pub count_lost : KeptEvents → Counts → (p : Program) (steps : ℕ) (before left : List ℕ) → IsUnderWay p steps before → IsKept p left (uncut p steps (counter_of before)) → counter_of left ≡ counter_of before
+count_lost kept_events counts p steps before left under_way kept =
+    kept_events p left (uncut p steps (counter_of before)) kept ∙ counts p steps (counter_of before) under_way.within
+
 pub later_lost : KeptEvents → Counts → (p : Program) (steps : ℕ) (before left : List ℕ) → IsUnderWay p steps before → IsKept p left (uncut p steps (counter_of before)) → IsLater p steps before left
 later_lost kept_events counts p steps before left under_way kept =
-    let count : counter_of left ≡ counter_of before = kept_events p left (uncut p steps (counter_of before)) kept ∙ counts p steps (counter_of before) under_way.within in
+    let count = count_lost kept_events counts p steps before left under_way kept in
     record {
       under_way = record { kept = subst (λ (n : ℕ). IsKept p left (uncut p steps n)) (sym count) kept; within = omega (arith, count, under_way.within) };
       later = omega (arith, count);
@@ -174,7 +178,12 @@ module _ {N : Type 0} (g : Ghosts N) (p : Program) (steps number undone n : ℕ)
 
   pub cut_since : (end : N) → EndsCut g p steps number undone n idle old new end → IsCut g p steps number nv old new end
   cut_since end e = record {
-    boot = record { images = later_since (g.words end) e.worked; cause = λ _. e.some; progress = progress_since end e };
+    boot = record {
+      images = later_since (g.words end) e.worked;
+      cause = λ _. e.some;
+      nothing = λ dark. absurd (let both : true ≡ false = sym dark ∙ enough in cc);
+      progress = progress_since end e;
+    };
     dark = e.dark;
     spent = spent_since end e.spent;
     text = e.text ∙ ap (λ (lines : List (List ℕ)). put_to old (text_of lines)) (lines_since _ ∙ lines_cut p steps number (g.left nv) (g.words nv) (g.words end) enough e.some);
@@ -189,7 +198,7 @@ module _ {N : Type 0} (g : Ghosts N) (p : Program) (steps number undone n : ℕ)
   }
 
 module _ {N : Type 0} (g : Ghosts N) (p : Program) (steps number : ℕ) (nv dark : N) (old new : Option (List ℕ))
-    (short : IsShort (g.left nv) (recovering (g.words nv))) (images : IsLater p steps (g.words nv) (g.words dark))
+    (short : IsShort (g.left nv) (recovering (g.words nv))) (images : IsLater p steps (g.words nv) (g.words dark)) (count : counter_of (g.words dark) ≡ counter_of (g.words nv))
     (same : is_formatted (g.words dark) ≡ is_formatted (g.words nv)) (spends : IsSpent g nv dark) where
   lost : goes_dark (g.left nv) (g.words nv) ≡ true
   lost = goes_dark-short (g.left nv) (g.words nv) short
@@ -204,6 +213,7 @@ module _ {N : Type 0} (g : Ghosts N) (p : Program) (steps number : ℕ) (nv dark
     boot = record {
       images = images;
       cause = λ live. absurd (let both : true ≡ false = sym lost ∙ live in cc);
+      nothing = λ _. count;
       progress = short-more (g.left nv) (recovering (g.words nv)) _ short;
     };
     dark = none;

@@ -1,5 +1,5 @@
 -- What a run over boots that budgets cut leaves.
-use Rattle.std.specs.Prelude.{◌≡◌, ℕ, ◌+◌, ◌-◌, ◌*◌, ◌<◌, ◌≤◌, false, List, [], ◌∷◌, Option}
+use Rattle.std.specs.Prelude.{◌≡◌, ℕ, ◌+◌, ◌-◌, ◌*◌, ◌<◌, ◌≤◌, true, false, List, [], ◌∷◌, Option}
 use Rattle.nv_memory.specs.Budget.{first_budget, later_budgets, IsShort}
 use Rattle.thread_tree.specs.Program.{Program}
 use Rattle.replay_list.specs.Kept.{counter_of, recovering}
@@ -12,11 +12,13 @@ pub record IsLater (p : Program) (steps : ℕ) (before left : List ℕ) : Type 0
   pub under_way : IsUnderWay p steps left
   pub later : counter_of before ≤ counter_of left
 
--- a boot that was cut: it didn't come to the last event, unless it went dark in its recovery, and its budget was less
--- than what its recovery needs and 6,400 writes for each event that it committed and for one more
+-- a boot that was cut: it didn't come to the last event, unless it went dark in its recovery, and then it committed
+-- nothing; and its budget was less than what its recovery needs and 6,400 writes for each event that it committed and
+-- for one more
 pub record IsCutBoot (p : Program) (steps : ℕ) (budget : Option ℕ) (before left : List ℕ) : Type 0 where
   pub images : IsLater p steps before left
   pub cause : goes_dark budget before ≡ false → counter_of left < steps
+  pub nothing : goes_dark budget before ≡ true → counter_of left ≡ counter_of before
   pub progress : IsShort budget (recovering before + 6400 * (counter_of left + 1 - counter_of before))
 
 -- a relation holds of each boot that was cut: its number, its budget, the words before and the words that it left

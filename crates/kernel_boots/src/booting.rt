@@ -41,6 +41,7 @@ pub fn boot<N: Nv, L: Ledger>(
     ensures cause { IfErr result (λ dark. IsShort (N.left nv) (recovering (N.words nv)) ⊎ (counter_of (N.words dark) < steps)) }
     ensures progress { IfErr result (λ dark. IsShort (N.left nv) (recovering (N.words nv) + 6400 * (counter_of (N.words dark) + 1 - counter_of (N.words nv)))) }
     ensures later { IfErr result (λ dark. counter_of (N.words nv) ≤ counter_of (N.words dark)) }
+    ensures nothing { IfErr result (λ dark. IsShort (N.left nv) (recovering (N.words nv)) → counter_of (N.words dark) ≡ counter_of (N.words nv)) }
     ensures no_write_left { IfErr result (λ dark. N.left dark ≡ Some 0) }
     ensures to_come { MatchResult result (λ next. N.to_come next.idle ≡ N.to_come nv) (λ dark. N.to_come dark ≡ N.to_come nv) }
     ensures ends { MatchResult result (λ next. N.ends next.idle ≡ N.ends nv) (λ dark. N.ends dark ≡ N.ends nv) }

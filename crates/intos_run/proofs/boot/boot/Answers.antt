@@ -9,7 +9,7 @@ use Rattle.kernel_boots.specs.Boots.{uncut, IsSpent}
 use Rattle.boot_report.specs.Lines.{dark_line}
 use Rattle.intos_run.specs.Ends.{IsCut, IsFailed}
 use Rattle.intos_run.specs.Report.{is_formatted}
-use Rattle.intos_run.proofs.BootLemmas.{MatchEnd-weaker, goes_dark-enough, done_since, cut_since, failed_since, cut_dark, failed_dark, later_lost}
+use Rattle.intos_run.proofs.BootLemmas.{MatchEnd-weaker, goes_dark-enough, done_since, cut_since, failed_since, cut_dark, failed_dark, count_lost, later_lost}
 use Rattle.intos_run.proofs.AtMostLaws.{DidNotRise-short}
 use Rattle.intos_run.proofs.boot.boot.Goals as goal
 
@@ -73,16 +73,18 @@ returns-in-Err-clause-ends g c =
     let old = g.S.Sink.bytes c.args.sink.now in
     let new = g.S.Sink.bytes c.dark.new.sink in
     let laws = c.standing_laws.ensures in
-    let images = later_lost laws.kept_events c.beginning.ensures.counts p steps words (g.N.Nv.words c.in-Err.lost) c.requires.under_way (lost.kept (uncut p steps (counter_of words)) c.requires.under_way.kept) in
+    let kept = lost.kept (uncut p steps (counter_of words)) c.requires.under_way.kept in
+    let images = later_lost laws.kept_events c.beginning.ensures.counts p steps words (g.N.Nv.words c.in-Err.lost) c.requires.under_way kept in
+    let count = count_lost laws.kept_events c.beginning.ensures.counts p steps words (g.N.Nv.words c.in-Err.lost) c.requires.under_way kept in
     let formatted : (c.read-formatted.result == magic) ≡ is_formatted words = ap (λ (word : ℕ). word == magic) c.read-formatted.ensures.word in
     let spent : IsSpent g.N.Nv c.args.nv c.in-Err.lost = record { left = DidNotRise-short _ _ _ short lost.left; to_come = lost.to_come; ends = lost.ends } in
     MatchEnd-weaker c.dark.result
     (λ nv no. absurd no)
     (λ nv cut. subst (IsCut g.N.Nv p steps c.args.number c.args.nv old new) (sym cut.0)
-    (cut_dark g.N.Nv p steps c.args.number c.args.nv c.in-Err.lost old new short images lost.formatted spent
+    (cut_dark g.N.Nv p steps c.args.number c.args.nv c.in-Err.lost old new short images count lost.formatted spent
     lost.left (cut.2 ∙ ap (λ (b : Bool). put_to old (dark_line c.args.number b ++ 10 ∷ [])) formatted)))
     (λ nv failed. subst (IsFailed g.N.Nv p steps c.args.number c.args.nv old new) (sym failed.0)
-    (failed_dark g.N.Nv p steps c.args.number c.args.nv c.in-Err.lost old new short images lost.formatted spent
+    (failed_dark g.N.Nv p steps c.args.number c.args.nv c.in-Err.lost old new short images count lost.formatted spent
     (subst (λ (b : Bool). IsPart old new (dark_line c.args.number b ++ 10 ∷ [])) formatted failed.1)))
     c.dark.ensures.ends
 
