@@ -14,12 +14,13 @@ use Rattle.thread_tree.specs.declared.block.Stmt.TheOpen.{Stmt-F}
 use Rattle.thread_tree.specs.declared.block.Stmt.TheOpen as stmt
 use Rattle.thread_tree.specs.Program.{Program}
 use Rattle.thread_tree.specs.Kinds.{Action, action_of, action_layer, kind_of_call, kind_word, result_count}
-use Rattle.thread_tree.specs.LocalState.{LocalState, move, next_statement, next_action, bind}
-use Rattle.thread_tree.specs.Ahead.{Ahead, Arrival, ahead, ahead_by, arrival_of, stops, goes_on}
+use Rattle.thread_tree.specs.LocalState.{LocalState, next_action, bind}
+use Rattle.thread_tree.specs.Ahead.{Ahead, Arrival, ahead}
 use Rattle.thread_tree.specs.Ahead.Arrival.{AtAction, Finished, Watchdog}
 use Rattle.thread_tree.specs.Relive.{Record, Life, started, records, passed_by, passed, relived, opened, begun}
 use Rattle.kernel_model.specs.Kernel.{Thread}
 use Rattle.kernel_model.specs.Relived.{is_open, life_of, words_in}
+use Rattle.kernel_model.proofs.Callers.{ahead-before}
 use Rattle.kernel_image.specs.Agree.{IsThread}
 use Rattle.kernel_image.specs.Decoded.{RowWords}
 use Rattle.boot_recovery.proofs.Choices.{by_test}
@@ -27,31 +28,6 @@ use Rattle.replay_list.specs.Records.{encoded, recorded, results_of, start_in}
 use Rattle.replay_list.specs.Stands.{IsLife}
 use Rattle.boot_recovery.proofs.RowLaws.{ready_closed, other_open}
 use Rattle.boot_recovery.specs.Remaining.{lived, Remains, IsGivenBack}
-
--- where a thread arrives at an action, it stands there
-abbrev statement_in : Arrival → Option Stmt
-statement_in (AtAction statement) = Some statement
-statement_in Finished = None
-statement_in Watchdog = None
-
-stands_at : (s : LocalState) → statement_in (arrival_of s) ≡ next_statement s.top.todo
-stands_at s = go (next_statement s.top.todo) where
-  go : (o : Option Stmt) → statement_in (elim o [ None ↦ Finished | Some statement ↦ AtAction statement ]) ≡ o
-  go None = refl
-  go (Some statement) = refl
-
-stops_at : (s : LocalState) (o : Option LocalState) (st : Stmt) → (stops s o).arrival ≡ AtAction st → next_statement (stops s o).local.top.todo ≡ Some st
-stops_at s None st is = sym (stands_at s) ∙ ap statement_in is
-stops_at s (Some next) st is = absurd (none-some st (ap statement_in is))
-
-goes_at : (s : LocalState) (go : LocalState → Ahead) (o : Option LocalState) (st : Stmt) → ((t : LocalState) → (go t).arrival ≡ AtAction st → next_statement (go t).local.top.todo ≡ Some st) → (goes_on go s o).arrival ≡ AtAction st → next_statement (goes_on go s o).local.top.todo ≡ Some st
-goes_at s go None st rest is = sym (stands_at s) ∙ ap statement_in is
-goes_at s go (Some next) st rest is = rest next is
-
-arrives_at : (p : Program) (n : ℕ) (s : LocalState) (st : Stmt) → (ahead_by p n s).arrival ≡ AtAction st → next_statement (ahead_by p n s).local.top.todo ≡ Some st
-unfolding ahead_by
-arrives_at p zero s st is = stops_at s (move p s) st is
-arrives_at p (suc n) s st is = goes_at s (λ t. ahead_by p n t) (move p s) st (λ t. arrives_at p n t st) is
 
 -- the kinds of actions are at most 16
 abbrev kind_or_zero : Option Action → ℕ
@@ -131,7 +107,7 @@ passes_by p r life final st action true arrives is recorded given =
     let many : result_count action.kind action.given ≡ length r.results = grind (arith, nat_tests) in
     record {
       action = action;
-      next = ap (λ (o : Option Stmt). elim o [ None ↦ None | Some statement ↦ action_of statement ]) (arrives_at p 10000 life.local st arrives) ∙ is;
+      next = ap (λ (o : Option Stmt). elim o [ None ↦ None | Some statement ↦ action_of statement ]) (ahead-before p life.local st arrives) ∙ is;
       many = sym many;
       told = ap results_of (sym kind) ∙ results_told action.kind action.given (kind_few st action is) ∙ many;
       gives = ap (by_arrival r life (ahead p life.local)) arrives ∙ ap (option_and_then (λ action. passed_by r life (ahead p life.local) action)) is ∙ ap (by_record r life (ahead p life.local)) recorded;

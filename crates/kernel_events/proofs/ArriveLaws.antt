@@ -9,7 +9,7 @@ use Rattle.thread_tree.specs.declared.block.Stmt.TheOpen as stmt
 use Rattle.thread_tree.specs.declared.place.At.{At}
 use Rattle.thread_tree.specs.declared.place.Place.{Place}
 use Rattle.thread_tree.specs.Actions.{actions}
-use Rattle.thread_tree.specs.Ahead.{Ahead, Arrival, ahead, ahead_by, most_moves, stops, goes_on}
+use Rattle.thread_tree.specs.Ahead.{Ahead, Arrival, ahead, ahead_by, stops, goes_on}
 use Rattle.thread_tree.specs.Ahead.Arrival.{AtAction, Finished, Watchdog}
 use Rattle.thread_tree.specs.Kinds.{Action, action_of}
 use Rattle.thread_tree.specs.LocalState.{LocalState, move, next_action, next_statement}
@@ -27,6 +27,7 @@ use Rattle.kernel_model.specs.Act.{printed_line}
 use Rattle.kernel_model.specs.Kernel.{Activity, State, Thread, thread_of, is_ready}
 use Rattle.kernel_model.specs.Kernel.Activity.{Ready, Delayed, Waiting}
 use Rattle.kernel_model.specs.Order.{chosen, line_of}
+use Rattle.kernel_model.proofs.Callers.{ahead-before}
 use Rattle.kernel_image.specs.Agree.{Both}
 use Rattle.kernel_model.specs.Run.{one}
 use Rattle.kernel_model.specs.Sound.{IsSound, IsSoundThread, IsSoundRow}
@@ -45,25 +46,6 @@ use Rattle.kernel_events.proofs.ActLaws.{ServedLaw, needed_by, console-length, s
 -- the law that each event keeps a kernel sound
 abbrev pub KeptLaw : Type 0
 KeptLaw = (p : Program) (K : State) (event : Event) → IsWithinLimits p → IsSound p K → K.events < 1000000 → IsSound p (one p K event)
-
--- where a thread stands at an action, its statement comes next
-stands-at : (found : Option Stmt) (statement : Stmt) → elim found as (λ _. Arrival) [ None ↦ Finished | Some s ↦ AtAction s ] ≡ AtAction statement → found ≡ Some statement
-stands-at None statement is = cc
-stands-at (Some s) statement is = let same : s ≡ statement = cc in ap Some same
-
-stopped-at : (s : LocalState) (statement : Stmt) (o : Option LocalState) → (stops s o).arrival ≡ AtAction statement → next_statement (stops s o).local.top.todo ≡ Some statement
-stopped-at s statement None is = stands-at (next_statement s.top.todo) statement is
-stopped-at s statement (Some next) is = cc
-
-went-to : (s : LocalState) (statement : Stmt) (go : LocalState → Ahead) → ((t : LocalState) → (go t).arrival ≡ AtAction statement → next_statement (go t).local.top.todo ≡ Some statement) → (o : Option LocalState) → (goes_on go s o).arrival ≡ AtAction statement → next_statement (goes_on go s o).local.top.todo ≡ Some statement
-went-to s statement go later None is = stands-at (next_statement s.top.todo) statement is
-went-to s statement go later (Some next) is = later next is
-
--- where a thread arrives at an action, its statement comes next
-at-action : (p : Program) (n : ℕ) (s : LocalState) (statement : Stmt) → (ahead_by p n s).arrival ≡ AtAction statement → next_statement (ahead_by p n s).local.top.todo ≡ Some statement
-unfolding ahead_by
-at-action p zero s statement is = stopped-at s statement (move p s) is
-at-action p (suc n) s statement is = went-to s statement (λ t. ahead_by p n t) (λ t at. at-action p n t statement at) (move p s) is
 
 -- the action that is told by its number
 told : (p : Program) (arrival : Arrival) (number : ℕ) (s : Stmt) → IsNext p arrival (next.Action number) → slice_get (actions p) number ≡ Some s → arrival ≡ AtAction s
@@ -107,7 +89,7 @@ module _ (p : Program) (d : Decoded) (contexts : List (Option Ctx)) (K : State) 
   action-here number s a here = told p (ahead p thread.local).arrival number s a.arrival here
 
   pub statement-here : (number : ℕ) (s : Stmt) → Arrives p d contexts K t thread ctx (next.Action number) → slice_get (actions p) number ≡ Some s → next_statement (local_of p ctx).top.todo ≡ Some s
-  statement-here number s a here = ap (λ (local : LocalState). next_statement local.top.todo) a.arrived ∙ at-action p most_moves thread.local s (action-here number s a here)
+  statement-here number s a here = ap (λ (local : LocalState). next_statement local.top.todo) a.arrived ∙ ahead-before p thread.local s (action-here number s a here)
 
   pub action-is : (number : ℕ) (s : Stmt) → Arrives p d contexts K t thread ctx (next.Action number) → slice_get (actions p) number ≡ Some s → next_action (local_of p ctx) ≡ action_of s
   action-is number s a here = ap (λ (found : Option Stmt). elim found as (λ _. Option Action) [ None ↦ None | Some statement ↦ action_of statement ]) (statement-here number s a here)

@@ -19,6 +19,7 @@ ghost use Rattle.kernel_events.specs.Follows.{Arrives};
 
 use crate::closing::{commit, stop};
 use crate::prints::print;
+use crate::room::{NO_RECORD_ROOM, RECORD_ROOM};
 use kernel_model::soundness;
 use nv_memory::Nv;
 use replay_list::{standing_laws, words_used};
@@ -26,12 +27,6 @@ use thread_check::Checked;
 use thread_machine::{Contexts, Ctx};
 use thread_tree::{Item, List};
 use undo_journal::{Dark, Idle, Open};
-
-/// The code of a thread whose records have no room for its next action.
-const NO_RECORD_ROOM: u32 = 4;
-
-/// The words of a thread's records.
-const RECORD_ROOM: u32 = 256;
 
 /// The event of a thread that arrives at this print.
 pub fn print_event<N: Nv>(

@@ -29,6 +29,7 @@ ghost use Rattle.kernel_events.specs.Follows.{Arrives};
 
 use crate::closing::{commit, stop};
 use crate::ending::count;
+use crate::room::{NO_RECORD_ROOM, RECORD_ROOM};
 use crate::serving::serve;
 use arrayvec::ArrayVec;
 use kernel_model::soundness;
@@ -45,11 +46,6 @@ use user_transactions::{TxEnd, perform};
 const ATOMIC: u32 = 16;
 
 const EACH_GIVEN: u32 = 256;
-
-/// The code of a thread whose records have no room for its next action, and the words of its records.
-const NO_RECORD_ROOM: u32 = 4;
-
-const RECORD_ROOM: u32 = 256;
 
 /// Undoes what a block did, and opens the transaction anew.
 #[tactic(auto, using(crate::proofs::AnewLaws::few_undoing, crate::proofs::AnewLaws::outside_undone, crate::proofs::EndLaws::fell_spent, crate::proofs::EndLaws::least_none))]

@@ -8,6 +8,7 @@ mod closing;
 mod ending;
 mod printing;
 mod prints;
+mod room;
 mod running;
 mod serving;
 mod stepping;

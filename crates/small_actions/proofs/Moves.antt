@@ -12,9 +12,10 @@ use Rattle.thread_tree.specs.Program.{Program, Function, function_of}
 use Rattle.thread_tree.specs.Value.{value_of, values_in}
 use Rattle.thread_tree.specs.LocalState.{Thing, Frame, LocalState, things, given_to, going_on, entered, returned, chosen_by, tested, broken, frame_of, moved_by, moved, move, next_statement, after_first, bind, loop_block}
 use Rattle.thread_tree.specs.LocalState.Thing.{Do, End, Test, Turn}
-use Rattle.thread_tree.specs.Ahead.{Ahead, arrival_of, stops, goes_on, ahead_by, ahead}
-use Rattle.thread_tree.specs.Ahead.Arrival.{AtAction, Finished, Watchdog}
+use Rattle.thread_tree.specs.Ahead.{Ahead, stops, goes_on, ahead_by, ahead}
+use Rattle.thread_tree.specs.Ahead.Arrival.{AtAction}
 use Rattle.thread_tree.specs.Actions.{Spot, at_turn, inside}
+use Rattle.kernel_model.proofs.Callers.{ahead-before}
 use Rattle.small_actions.proofs.Rules.{all_both, all_found}
 use Rattle.small_actions.proofs.Kept.{IsKept, IsKeptBlock, AreKeptParts, parts_kept, statements_kept}
 
@@ -175,30 +176,6 @@ module _ (p : Program) (functions : AllByRecursion (λ (function : Function). Is
   pub ahead_kept : (s : LocalState) → IsKeptState s → IsKeptState (ahead p s).local
   ahead_kept s h = ahead_by_kept 10000 s h
 
-  -- a thread that arrived at an action stands before it
-  arrival_next : (s : LocalState) (statement : Stmt) → arrival_of s ≡ AtAction statement → next_statement s.top.todo ≡ Some statement
-  arrival_next s statement e = go (next_statement s.top.todo) e
-    where
-      go : (o : Option Stmt) → elim o [ None ↦ Finished | Some statement ↦ AtAction statement ] ≡ AtAction statement → o ≡ Some statement
-      go None e = absurd (let f : Finished ≡ AtAction statement = e in cc)
-      go (Some x) e = let f : AtAction x ≡ AtAction statement = e in cc
-
-  abbrev IsBefore : Ahead → Type 0
-  IsBefore a = (statement : Stmt) → a.arrival ≡ AtAction statement → next_statement a.local.top.todo ≡ Some statement
-
-  stops_before : (s : LocalState) (o : Option LocalState) → IsBefore (stops s o)
-  stops_before s None = arrival_next s
-  stops_before s (Some next) = λ statement e. absurd (let f : Watchdog ≡ AtAction statement = e in cc)
-
-  goes_on_before : (go : LocalState → Ahead) (s : LocalState) (o : Option LocalState) → ((next : LocalState) → IsBefore (go next)) → IsBefore (goes_on go s o)
-  goes_on_before go s None all = arrival_next s
-  goes_on_before go s (Some next) all = all next
-
-  ahead_by_before : (n : ℕ) (s : LocalState) → IsBefore (ahead_by p n s)
-  unfolding ahead_by
-  ahead_by_before zero s = stops_before s (move p s)
-  ahead_by_before (suc n) s = goes_on_before (λ next. ahead_by p n next) s (move p s) (λ next. ahead_by_before n next)
-
   -- the action that a thread arrives at keeps the rules
   pub arrived_kept : (s : LocalState) (statement : Stmt) → IsKeptState s → (ahead p s).arrival ≡ AtAction statement → IsKept statement
-  arrived_kept s statement h at = next_kept (ahead p s).local.top.todo statement (ahead_kept s h).top (ahead_by_before 10000 s statement at)
+  arrived_kept s statement h at = next_kept (ahead p s).local.top.todo statement (ahead_kept s h).top (ahead-before p s statement at)
