@@ -9,6 +9,3 @@ mod starting;
 
 pub use recovery::recover;
 pub use starting::formatting_stands;
-
-#[cfg(test)]
-mod tests;

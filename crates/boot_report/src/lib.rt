@@ -8,6 +8,3 @@ mod threads;
 
 pub use ending::{put_cut, put_dark, put_end};
 pub use starting::put_begin;
-
-#[cfg(test)]
-mod tests;

@@ -6,6 +6,3 @@ mod reading;
 
 pub use appending::append;
 pub use reading::{byte, length};
-
-#[cfg(test)]
-mod tests;

@@ -7,8 +7,6 @@
 #![tactic(auto)]
 
 mod laws;
-#[cfg(test)]
-mod tests;
 mod worked;
 
 pub use laws::{earliest, rising};

@@ -123,6 +123,3 @@ pub fn read_command<'a>(alloc: Global, words: &'a Vec<String>) -> Result<Command
         cuts,
     })
 }
-
-#[cfg(test)]
-mod tests;

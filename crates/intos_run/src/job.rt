@@ -11,7 +11,7 @@ use crate::refusal::{Refusal, refusal_of_check, refusal_of_text};
 use outer_world::{FileFault, Files};
 use served_program::is_served;
 use std::alloc::Global;
-use thread_check::{Checked, check};
+use thread_check::{Checked, check, discard};
 use thread_text::parse;
 
 /// The most bytes of a program.
@@ -45,6 +45,7 @@ fn read_text(alloc: Global, text: &[u8]) -> Result<Checked, Refusal>
         Err(fault) => return Err(refusal_of_check(fault)),
     };
     if !is_served(&program) {
+        discard(program);
         return Err(Refusal::ProgramNotYet);
     }
     Ok(program)

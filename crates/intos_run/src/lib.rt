@@ -12,7 +12,5 @@ mod job;
 mod refusal;
 mod top;
 
+pub use command::{Command, CommandFault, read_command};
 pub use top::{Ended, run};
-
-#[cfg(test)]
-mod tests;

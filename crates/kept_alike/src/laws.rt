@@ -24,13 +24,3 @@ pub fn kept_alike()
     ensures dump { (t : Tree) (steps n : ℕ) → dump_lines (names_of (program_of t)) (visible (program_of t) (uncut (program_of t) steps n)) ≡ dump_lines (names_of (program_of (bare_tree t))) (visible (program_of (bare_tree t)) (uncut (program_of (bare_tree t)) steps n)) }
     ensures restoring { (t : Tree) (steps n : ℕ) (words : List ℕ) → recovery_steps words (uncut (program_of t) steps n) ≡ recovery_steps words (uncut (program_of (bare_tree t)) steps n) }
 {}
-
-#[cfg(test)]
-mod tests {
-    use super::*;
-
-    #[test]
-    fn laws_can_be_cited() {
-        kept_alike();
-    }
-}

@@ -8,6 +8,3 @@ mod working;
 pub use blank::beginning;
 pub use booting::boot;
 pub use working::{Stopped, work};
-
-#[cfg(test)]
-mod tests;

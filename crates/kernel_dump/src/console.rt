@@ -121,7 +121,7 @@ fn put_bytes<S: Sink>(console: &[u8], sink: &mut S) -> Result<(), SinkFault>
 }
 
 /// Puts the console: the line of its length, and its lines.
-pub(crate) fn put_console<W: Words, S: Sink>(words: &W, sink: &mut S) -> Result<(), SinkFault>
+pub fn put_console<W: Words, S: Sink>(words: &W, sink: &mut S) -> Result<(), SinkFault>
     requires few { (image_in (W.present words.now)).console_length ≤ 8192 }
     ensures puts { Puts result (S.bytes sink.old) (S.bytes sink.new)
         (text_of (console_size_line (length (bytes_in (image_in (W.present words.now)))) ∷ map console_line (console_lines (bytes_in (image_in (W.present words.now)))))) }

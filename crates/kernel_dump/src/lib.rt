@@ -10,10 +10,11 @@ mod ready;
 mod rows;
 mod sort;
 
+pub use console::put_console;
 pub use dump::put_dump;
 pub use line::Line;
 pub use names::{bytes_of, name_at};
+pub use objects::put_objects;
+pub use ready::put_ready;
+pub use rows::put_rows;
 pub use sort::Sort;
-
-#[cfg(test)]
-mod tests;

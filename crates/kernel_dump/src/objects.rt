@@ -141,7 +141,7 @@ fn put_object<W: Words, S: Sink>(
 }
 
 /// Puts the lines of all objects, in order of place.
-pub(crate) fn put_objects<W: Words, S: Sink>(
+pub fn put_objects<W: Words, S: Sink>(
     words: &W,
     program: &Checked,
     sink: &mut S,

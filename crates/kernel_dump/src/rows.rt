@@ -149,7 +149,7 @@ fn put_row<W: Words, S: Sink>(
 }
 
 /// Puts the lines of all threads, in order of their numbers.
-pub(crate) fn put_rows<W: Words, S: Sink>(
+pub fn put_rows<W: Words, S: Sink>(
     words: &W,
     program: &Checked,
     sink: &mut S,

@@ -1,7 +1,6 @@
 pub mod Cells
 pub mod Decoded
 pub mod Shown
-pub mod WorkedImages
 pub mod Initial
 pub mod Declarations
 pub mod Agree

@@ -12,7 +12,6 @@ mod sort;
 mod start;
 mod starts;
 mod statics;
-mod worked_images;
 
 pub use cell::Cell;
 pub use cells::{address, load, store};
@@ -20,6 +19,3 @@ pub use field::Field;
 pub use initial::{cell_of, initial_word};
 pub use readers::{counter, queue_item, row_state, ticks};
 pub use start::formatting_shows_the_start;
-
-#[cfg(test)]
-mod tests;

@@ -11,9 +11,6 @@ pub mod Transactions
 pub mod Act
 pub mod Run
 pub mod Show
-pub mod WorkedDumps
 pub mod Sound
 pub mod Placed
 pub mod Relived
-pub mod Literals
-pub mod WorkedRuns

@@ -102,17 +102,3 @@ pub fn replay()
     ensures turned { (p : Program) (start : Start) (rs : List Record) (thread : Thread) → IsRelived p start rs thread → (s : Stmt) (block : Block) → thread.activity ≡ Ready → IsPlaced p thread.local → (ahead p thread.local).arrival ≡ AtAction s → loop_block (out-Stmt s) ≡ Some block → (ahead p thread.local).local.below ≡ [] → (number : ℕ) × (slice_get (loops p) number ≡ Some (spot_at s (names_in (ahead p thread.local).local.top.locals) (after_first (ahead p thread.local).local.top.todo))) × IsRelived p (Loop number (values_of (ahead p thread.local).local.top.locals)) [] (turned (arrived (ahead p thread.local) thread)) }
     ensures placed { (tree : Tree) (start : Start) (rs : List Record) (thread : Thread) → IsRelived (program_of tree) start rs thread → IsPlaced (program_of tree) thread.local }
 {}
-
-#[cfg(test)]
-mod tests {
-    use super::*;
-
-    #[test]
-    fn laws_can_be_cited() {
-        soundness();
-        order();
-        places();
-        loops();
-        replay();
-    }
-}

@@ -8,10 +8,6 @@ mod laws;
 mod row_state;
 mod wait;
 mod what;
-#[cfg(test)]
-mod worked_dumps;
-#[cfg(test)]
-mod worked_runs;
 
 pub use event::Event;
 pub use kinds::{kind_of, record_words};

@@ -6,6 +6,3 @@ mod sim_nv;
 
 pub use nv::{Cut, NoMemory, Nv, WORDS};
 pub use sim_nv::SimNv;
-
-#[cfg(test)]
-mod tests;

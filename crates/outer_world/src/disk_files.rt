@@ -41,9 +41,13 @@ impl<R: rt::Files> DiskFiles<R> {
     }
 }
 
-// Reads the file to its end, or until more than `limit` bytes came.
+/// Reads a file to its end, or until more than `limit` bytes came, and adds the number of bytes that came to `taken`.
+///
+/// # Errors
+///
+/// `TooLong` where more than `limit` bytes came, `Failed` where a call of the file did, and `NoMemory`.
 #[tactic(auto, using(crate::proofs::ConsumedLaws::consumed))]
-pub(crate) fn read_within<F: Read>(
+pub fn read_within<F: Read>(
     file: &mut F,
     limit: u32,
     into: &mut Vec<u8>,

@@ -12,14 +12,11 @@ mod mem_sink;
 mod out_sink;
 mod sink;
 
-pub use disk_files::DiskFiles;
+pub use disk_files::{DiskFiles, read_within};
 pub use fault::{FileFault, NoMemory, SinkFault};
 pub use files::Files;
 pub use mem_file::MemFile;
 pub use mem_files::MemFiles;
 pub use mem_sink::MemSink;
-pub use out_sink::OutSink;
+pub use out_sink::{OutSink, write_whole};
 pub use sink::Sink;
-
-#[cfg(test)]
-mod tests;

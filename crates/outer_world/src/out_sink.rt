@@ -31,9 +31,13 @@ impl<R: Print> OutSink<R> {
     }
 }
 
-// Writes the whole piece and flushes it. A write that takes nothing of what is left has failed.
+/// Writes the whole piece and flushes it. A write that takes nothing of what is left has failed.
+///
+/// # Errors
+///
+/// `SinkFault` where a write or the flush failed.
 #[tactic(auto, using(crate::proofs::AppendedLaws::appended))]
-pub(crate) fn write_whole<W: Write>(out: &mut W, piece: &[u8]) -> Result<(), SinkFault>
+pub fn write_whole<W: Write>(out: &mut W, piece: &[u8]) -> Result<(), SinkFault>
     ensures whole { OnOk result (Appends (W.contents out.old) (W.contents out.new) piece.now) }
 {
     let mut written = 0;

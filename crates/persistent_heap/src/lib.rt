@@ -12,6 +12,3 @@ mod words;
 
 pub use giving_back::give_back;
 pub use taking::take;
-
-#[cfg(test)]
-mod tests;

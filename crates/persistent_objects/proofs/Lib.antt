@@ -1,6 +1,5 @@
 mod ClauseLaws
 mod FieldLaws
-mod FormattedLaws
 mod FoundLaws
 mod Given
 mod HoleLaws

@@ -15,6 +15,3 @@ pub use loading::load;
 pub use statics::{Static, static_object};
 pub use stop::{BadReference, Stop};
 pub use storing::store;
-
-#[cfg(test)]
-mod tests;

@@ -4,6 +4,3 @@
 mod ready;
 
 pub use ready::chosen;
-
-#[cfg(test)]
-mod tests;

@@ -1,5 +1,4 @@
 pub mod Callers
-mod ArrivedLaws
 mod LawSets
 mod KindLaws
 mod WordLaws

@@ -14,8 +14,5 @@ pub use finishing::finish;
 pub use kernel::Kernel;
 pub use laws::standing_laws;
 pub use outcome::Outcome;
-pub use reading::{record_at, record_count, words_used};
+pub use reading::{record_at, record_count, record_word, result_count, words_used};
 pub use record::Record;
-
-#[cfg(test)]
-mod tests;

@@ -20,7 +20,7 @@ pub fn words_used<W: Words>(words: &W, thread: u32) -> u32
 
 /// How many results a record has that begins with this kind word.
 #[tactic(auto, using(crate::proofs::LawSets::kind_laws))]
-pub(crate) fn result_count(kind_word: u32) -> u32
+pub fn result_count(kind_word: u32) -> u32
     ensures count { result ≡ results_of kind_word }
 {
     match kind_word % 256 {
@@ -32,9 +32,9 @@ pub(crate) fn result_count(kind_word: u32) -> u32
     }
 }
 
-/// A word of the records of a thread.
+/// The word at this place of the records of a thread, counted from 0.
 #[tactic(auto, using(crate::proofs::LawSets::word_laws))]
-pub(crate) fn record_word<W: Words>(words: &W, thread: u32, at: u32) -> u32
+pub fn record_word<W: Words>(words: &W, thread: u32, at: u32) -> u32
     requires thread { thread < 16 }
     requires within { at < 256 }
     ensures word { result ≡ slice_index (row_at (image_in (W.present words.now)) thread).records at }

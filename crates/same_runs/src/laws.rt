@@ -86,16 +86,3 @@ pub fn lives_alike()
     ensures bare_kept { (p : Program) (start : Start) (rs : List Record) (a : Thread) → IsRelived p start rs a → IsRelived (bare_program p) start rs (bare_thread a) }
     ensures exact { (p : Program) (start : Start) (rs : List Record) (a : Thread) → IsRelived p start rs a → IsRelivedAlike p start rs a }
 {}
-
-#[cfg(test)]
-mod tests {
-    use super::*;
-
-    #[test]
-    fn laws_can_be_cited() {
-        programs_alike();
-        moves_alike();
-        runs_alike();
-        lives_alike();
-    }
-}

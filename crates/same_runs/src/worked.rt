@@ -24,8 +24,3 @@ pub fn worked_rows()
     ensures free { (thread : Thread) → SameRow Free (Live thread) → ⊥ }
     ensures lives { (life : Life) → SameLives None (Some life) → ⊥ }
 {}
-
-#[test]
-fn rows_are_as_worked() {
-    worked_rows();
-}

@@ -12,6 +12,3 @@ mod transactions;
 
 pub use laws::served_laws;
 pub use program::is_served;
-
-#[cfg(test)]
-mod tests;

@@ -16,13 +16,3 @@ pub fn served_runs()
     ensures ready { (tree : Tree) (steps n t : ℕ) (thread : Thread) → IsTrue (is_served tree) → thread_of (after (program_of tree) (replicate steps Step) n) t ≡ Some thread → thread.activity ≡ Ready }
     ensures untimed { (tree : Tree) (steps n : ℕ) → IsTrue (is_served tree) → timed_list (after (program_of tree) (replicate steps Step) n) ≡ [] }
 {}
-
-#[cfg(test)]
-mod tests {
-    use super::*;
-
-    #[test]
-    fn laws_can_be_cited() {
-        served_runs();
-    }
-}

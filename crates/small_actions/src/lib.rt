@@ -4,6 +4,3 @@
 mod laws;
 
 pub use laws::small_actions;
-
-#[cfg(test)]
-mod tests;

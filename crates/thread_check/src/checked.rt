@@ -50,10 +50,19 @@ pub fn check(alloc: Global, tree: Tree) -> Result<Checked, CheckFault>
             if are_few(&tree) {
                 return Ok(Checked { tree });
             }
+            thread_tree::discard(tree);
             Err(CheckFault::NoMemory)
         }
-        Err(fault) => Err(fault),
+        Err(fault) => {
+            thread_tree::discard(tree);
+            Err(fault)
+        }
     }
+}
+
+/// Lets a program go, as `thread_tree::discard` does its tree.
+pub fn discard(program: Checked) {
+    thread_tree::discard(program.tree);
 }
 
 impl Checked {

@@ -20,8 +20,5 @@ mod statements;
 mod transactions;
 mod uses;
 
-pub use checked::{Checked, check};
+pub use checked::{Checked, check, discard};
 pub use fault::{CheckFault, Kind};
-
-#[cfg(test)]
-mod tests;

@@ -1,3 +1,4 @@
+pub mod Callers
 mod Tags
 mod Steps
 mod ExpressionRows
@@ -14,7 +15,6 @@ mod Finish
 mod Fine
 mod Openness
 mod Explained
-mod Worked
 mod BlockLaws
 mod Contents
 mod ContentsKept

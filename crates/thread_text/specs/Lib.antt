@@ -7,4 +7,3 @@ pub mod Canonical
 pub mod CanonicalText
 pub mod Repeats
 pub mod Rescanned
-pub mod WorkedTexts

@@ -18,13 +18,8 @@ mod no_memory;
 mod operators;
 mod parsing;
 mod printer;
-#[cfg(test)]
-mod printer_tests;
 mod statements;
-#[cfg(test)]
-mod tests;
 mod transactions;
-mod worked_texts;
 
 pub use fault::TextFault;
 use halt::Halt;

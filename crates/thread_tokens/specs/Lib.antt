@@ -4,4 +4,3 @@ pub mod Scan
 pub mod Spelled
 pub mod Spelling
 pub mod Steps
-pub mod Worked

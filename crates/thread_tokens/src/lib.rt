@@ -11,9 +11,6 @@ mod place;
 mod scanned;
 mod scanner;
 mod spelling;
-#[cfg(test)]
-mod tests;
-mod worked;
 
 pub use ending::Ending;
 pub use piece::{Fault, Piece};

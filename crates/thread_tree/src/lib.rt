@@ -24,4 +24,4 @@ pub use name::{Name, Text};
 pub use place::{At, Num, Place};
 pub use token::{Mark, Placed, Token, Word};
 pub use transaction::{TBlock, TStmt};
-pub use tree::{Decl, Tree};
+pub use tree::{Decl, Tree, discard};

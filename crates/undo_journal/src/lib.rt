@@ -18,6 +18,3 @@ pub use layout::MAGIC;
 pub use open_transaction::Open;
 pub use settling::settle;
 pub use words::Words;
-
-#[cfg(test)]
-mod tests;

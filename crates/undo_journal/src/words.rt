@@ -1,8 +1,9 @@
 // What can be read word by word.
 ghost use Rattle.std.specs.Prelude.{◌≡◌, ◌<◌, List, ℕ, slice_index};
 
-/// A device whose present words can be read. Only an idle device and an open transaction are, so nothing above can
-/// read words whose journal isn't settled.
+/// A device whose present words can be read. Of the states of a transaction only an idle device and an open
+/// transaction are one. A crate above could write one more for a bare device: what refuses words whose journal isn't
+/// settled is the condition of each call that reads them.
 pub trait Words {
     /// The present words.
     ghost present: { Self → List ℕ };

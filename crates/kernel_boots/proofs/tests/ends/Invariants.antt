@@ -1,4 +1,0 @@
-use Rattle.kernel_boots.proofs.tests.ends.Given as goal
-
-abbrev pub ghosts-one_more : goal.ghosts-one_more
-ghosts-one_more g a = record { name = a.blank.name; parts = a.blank.parts }

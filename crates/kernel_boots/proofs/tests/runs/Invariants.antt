@@ -1,4 +1,0 @@
-use Rattle.kernel_boots.proofs.tests.runs.Given as goal
-
-abbrev pub ghosts-four_boots : goal.ghosts-four_boots
-ghosts-four_boots g a = record { name = a.blank.name; parts = a.blank.parts }

@@ -1,0 +1,4 @@
+pub mod Literals
+pub mod WorkedDumps
+pub mod WorkedRuns
+pub mod WorkedImages

@@ -1,6 +1,0 @@
-use super::*;
-
-#[test]
-fn the_law_does_nothing() {
-    small_actions();
-}

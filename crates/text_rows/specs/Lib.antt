@@ -1,0 +1,3 @@
+pub mod WorkedScans
+pub mod WorkedTexts
+pub mod WorkedVerdicts

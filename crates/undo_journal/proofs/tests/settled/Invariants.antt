@@ -1,4 +1,0 @@
-use Rattle.undo_journal.proofs.tests.settled.Given as goal
-
-abbrev pub ghosts-settle_uncounted : goal.ghosts-settle_uncounted
-ghosts-settle_uncounted g a = record { name = a.blank.name; parts = a.blank.parts }
