@@ -88,13 +88,13 @@ fn a_program_is_refused_at_its_first_fault(rt: HostRuntime) {
         ),
     ];
     for (text, fault) in cases {
-        assert_eq!(rt; fault_of_program(&rt, text), Some(fault));
+        assert_eq!(rt; fault_of_program(&rt, rt.alloc(), text), Some(fault));
     }
 }
 
 #[test]
 fn a_program_is_accepted(rt: HostRuntime) {
-    let program = program_of(&rt, b"thread t() priority 1 { print 7; } start t();");
+    let program = program_of(&rt, rt.alloc(), b"thread t() priority 1 { print 7; } start t();");
     assert_eq!(rt; program.tree().decls.len(), 2);
     thread_check::discard(program);
 }

@@ -27,7 +27,7 @@ fn cited(text: &[u8], tree: &Tree)
 #[test]
 fn laws_are_cited(rt: HostRuntime) {
     let text: &[u8] = b"start a();";
-    let tree = tree_of(&rt, text);
+    let tree = tree_of(&rt, rt.alloc(), text);
     cited(text, &tree);
     worked_rows();
     let fault = CheckFault::UnknownName(Place { line: 1, column: 7 });

@@ -5,16 +5,17 @@ ghost use Rattle.thread_tree.specs.SpellingOfDeclarations.{SpellsProgram};
 ghost use Rattle.thread_tokens.specs.Scan.{scan_of};
 
 use std::alloc::Global;
+use std::process::Abort;
 use thread_check::{CheckFault, Checked, check};
 use thread_text::{TextFault, parse};
 use thread_tree::Tree;
 
 /// The tree of a text that is read.
-pub(crate) fn tree_of(rt: &HostRuntime, text: &[u8]) -> Tree
+pub(crate) fn tree_of(rt: &impl Abort, alloc: Global, text: &[u8]) -> Tree
     requires { length text.now < 2 ^ 32 - 1 }
     ensures spelled { SpellsProgram (scan_of text.now).tokens result.decls }
 {
-    match parse(rt.alloc(), text) {
+    match parse(alloc, text) {
         Ok(tree) => tree,
         Err(fault) => panic!(rt; "{fault:?}"),
     }
@@ -45,17 +46,17 @@ pub(crate) fn fault_of_tree(alloc: Global, tree: Tree) -> Option<CheckFault> {
 }
 
 /// The fault of the program that a text spells, or none where it is accepted.
-pub(crate) fn fault_of_program(rt: &HostRuntime, text: &[u8]) -> Option<CheckFault>
+pub(crate) fn fault_of_program(rt: &impl Abort, alloc: Global, text: &[u8]) -> Option<CheckFault>
     requires { length text.now < 2 ^ 32 - 1 }
 {
-    fault_of_tree(rt.alloc(), tree_of(rt, text))
+    fault_of_tree(alloc, tree_of(rt, alloc, text))
 }
 
 /// The program that a text spells, which is accepted.
-pub(crate) fn program_of(rt: &HostRuntime, text: &[u8]) -> Checked
+pub(crate) fn program_of(rt: &impl Abort, alloc: Global, text: &[u8]) -> Checked
     requires { length text.now < 2 ^ 32 - 1 }
 {
-    match check(rt.alloc(), tree_of(rt, text)) {
+    match check(alloc, tree_of(rt, alloc, text)) {
         Ok(program) => program,
         Err(fault) => panic!(rt; "{fault:?}"),
     }

@@ -18,7 +18,7 @@ fn a_text_at_the_bounds_is_read(rt: HostRuntime) {
 
 #[test]
 fn all_declarations_are_read(rt: HostRuntime) {
-    let tree = tree_of(&rt, SENSOR_PROGRAM);
+    let tree = tree_of(&rt, rt.alloc(), SENSOR_PROGRAM);
     assert_eq!(rt; tree.decls.len(), 12);
     thread_tree::discard(tree);
 }

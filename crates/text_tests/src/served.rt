@@ -10,7 +10,7 @@ fn served_programs_are_told_apart(rt: HostRuntime) {
         (b"thread t() priority 1 { yield; }", false),
     ];
     for (text, served) in cases {
-        let program = program_of(&rt, text);
+        let program = program_of(&rt, rt.alloc(), text);
         assert_eq!(rt; is_served(&program), served);
         thread_check::discard(program);
     }
