@@ -94,7 +94,11 @@ fn a_program_is_refused_at_its_first_fault(rt: HostRuntime) {
 
 #[test]
 fn a_program_is_accepted(rt: HostRuntime) {
-    let program = program_of(&rt, rt.alloc(), b"thread t() priority 1 { print 7; } start t();");
+    let program = program_of(
+        &rt,
+        rt.alloc(),
+        b"thread t() priority 1 { print 7; } start t();",
+    );
     assert_eq!(rt; program.tree().decls.len(), 2);
     thread_check::discard(program);
 }

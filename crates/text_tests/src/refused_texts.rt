@@ -106,6 +106,11 @@ fn a_text_is_refused_at_its_first_fault(rt: HostRuntime) {
 fn each_beginning_of_a_program_has_an_answer(rt: HostRuntime) {
     for end in 0..SENSOR_PROGRAM.len() {
         let fault = fault_of_text(rt.alloc(), &SENSOR_PROGRAM[..end]);
-        assert!(rt; matches!(fault, None | Some(TextFault::Expected(_) | TextFault::BadToken(_))));
+        assert!(rt;
+            matches!(
+                fault,
+                None | Some(TextFault::Expected(_) | TextFault::BadToken(_))
+            )
+        );
     }
 }
