@@ -1,9 +1,9 @@
 -- Each row computes to its answer.
 use Rattle.std.proofs.Common.{refl}
-use Rattle.thread_tree.specs.Grammar.{turn, operand, behind_name, call_end, declared, declared_by, statement, stated_by, advance, is_mark, is_word, is_name, is_number, is_text, is_between, is_prefix, prefixes, mark_number, word_number}
-use Rattle.thread_text.specs.Bounds.{counted, own_counts, operand_counts, open_counts, close_counts, one_operator, one_parenthesis, one_block, block_less, afresh}
+use Rattle.thread_tree.specs.Grammar.{turn, operand, behind_name, declared, declared_by, statement, advance, is_mark, is_name, is_number, is_between, is_prefix, prefixes, mark_number}
+use Rattle.thread_text.specs.Bounds.{counted, own_counts, operand_counts, open_counts, close_counts, one_operator, one_block, afresh}
 use Rattle.thread_text.specs.Fate.{fate, step, judged}
-use Rattle.thread_text.specs.Verdict.{Fine, Faulty, verdict}
+use Rattle.thread_text.specs.Verdict.{verdict}
 use Rattle.text_rows.proofs.worked_verdicts.worked_by_hand.Goals as goal
 
 pub returns-clause-started : goal.returns-clause-started
