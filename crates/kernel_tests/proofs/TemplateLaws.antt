@@ -23,4 +23,4 @@ plain_template (a ∷ b ∷ ds) q capacity channel t names priority body first s
     let one : decl.Queue q capacity channel ≡ a = (let f : ◌≡◌ {A = Option Decl} (Some a) (Some (decl.Queue q capacity channel)) = first in cc) in
     let two : decl.Thread t names priority body ≡ b = (let f : ◌≡◌ {A = Option Decl} (Some b) (Some (decl.Thread t names priority body)) = second in cc) in
     subst (λ (x : Decl). IsSomeAnd (slice_get (sorted (x ∷ b ∷ ds)).templates 0) (λ (found : Template). 0 ≡ length found.parameters)) one
-      (subst (λ (y : Decl). IsSomeAnd (slice_get (sorted (decl.Queue q capacity channel ∷ y ∷ ds)).templates 0) (λ (found : Template). 0 ≡ length found.parameters)) two (no_names names none))
+    (subst (λ (y : Decl). IsSomeAnd (slice_get (sorted (decl.Queue q capacity channel ∷ y ∷ ds)).templates 0) (λ (found : Template). 0 ≡ length found.parameters)) two (no_names names none))

@@ -29,12 +29,7 @@ fn one_piece_for_a_line(rt: HostRuntime) {
 }
 
 // Two ready threads of one priority, the later one first, and one that has ended.
-fn puts_threads<N: Nv>(
-    rt: &impl Abort,
-    tx: &mut Open<N>,
-    program: &Checked,
-    sink: &mut MemSink,
-) {
+fn puts_threads<N: Nv>(rt: &impl Abort, tx: &mut Open<N>, program: &Checked, sink: &mut MemSink) {
     for (thread, word, value) in [
         (1, 0, 1),
         (1, 2, 3),
@@ -66,12 +61,7 @@ fn threads_and_lists(rt: HostRuntime) {
 }
 
 // The first and the last place at which an object can be.
-fn puts_objects<N: Nv>(
-    rt: &impl Abort,
-    tx: &mut Open<N>,
-    program: &Checked,
-    sink: &mut MemSink,
-) {
+fn puts_objects<N: Nv>(rt: &impl Abort, tx: &mut Open<N>, program: &Checked, sink: &mut MemSink) {
     put(rt, tx, Cell::HeapWord(2), 65_537);
     put(rt, tx, Cell::HeapWord(4_094), 1);
     put(rt, tx, Cell::LiveWord(0), 2);

@@ -27,7 +27,12 @@ fn the_first_of_two_equals(rt: HostRuntime) {
     assert_eq!(rt; chosen(&tx), None);
     put_row(&rt, &mut tx, 0, 1, 2, 1);
     assert_eq!(rt; chosen(&tx), Some(0));
-    for (thread, state, priority, stamp) in [(3, 1, 5, 9), (15, 1, 5, 4), (7, 3, 7, 2), (8, 2, 7, 3)] {
+    for (thread, state, priority, stamp) in [
+        (3, 1, 5, 9),
+        (15, 1, 5, 4),
+        (7, 3, 7, 2),
+        (8, 2, 7, 3),
+    ] {
         put_row(&rt, &mut tx, thread, state, priority, stamp);
     }
     assert_eq!(rt; chosen(&tx), Some(15));
