@@ -1,5 +1,5 @@
 -- The first template of a program that declares a queue and then a thread without parameters.
-use Rattle.std.proofs.Common.{◌≡◌, ℕ, List, [], ◌∷◌, refl, ap, subst}
+use Rattle.std.proofs.Common.{arith, ◌≡◌, List, [], ◌∷◌, refl, subst}
 use Rattle.std.specs.Prelude.{Option, Some, None, IsSomeAnd, length, slice_get}
 use Rattle.thread_tree.specs.declared.block.Block.{Block}
 use Rattle.thread_tree.specs.declared.place.At.{At}

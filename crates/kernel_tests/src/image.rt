@@ -54,7 +54,7 @@ fn states(rt: HostRuntime) {
         (4, RowState::Ended(2)),
     ] {
         put(&rt, &mut tx, Cell::RowWord(3, 0), word);
-        assert_eq!(rt; row_state(&tx, 3), state);
+        assert_eq!(rt; row_state(&tx, 3), state, "word {word}");
     }
     close(&rt, tx);
 }
@@ -88,7 +88,7 @@ fn places_of_the_layout(rt: HostRuntime) {
         (7_807, Cell::ConsoleWord(2_047)),
         (7_808, Cell::HeapWord(0)),
     ] {
-        assert_eq!(rt; cell_of(at), cell);
+        assert_eq!(rt; cell_of(at), cell, "at {at}");
     }
     formatting_shows_the_start();
 }

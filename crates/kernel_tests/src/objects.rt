@@ -53,7 +53,7 @@ fn reads_fields<N: Nv>(rt: &impl Abort, tx: &Open<N>, program: &Checked) {
         (4_098, 0, 0, Err(BadReference)),
         (4_294_967_294, 0, 0, Err(BadReference)),
     ] {
-        assert_eq!(rt; load(tx, program, place, kind, field), value);
+        assert_eq!(rt; load(tx, program, place, kind, field), value, "at {place}");
     }
 }
 
