@@ -1,0 +1,3 @@
+mod ArrivedLaws
+mod FormattedLaws
+mod TemplateLaws
