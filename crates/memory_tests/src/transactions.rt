@@ -1,5 +1,5 @@
 // Transactions on a device in memory, of which word 1 is 3 at first.
-ghost use Rattle.std.specs.Prelude.{◌≤◌};
+ghost use Rattle.std.specs.Prelude.{◌≡◌};
 ghost use Rattle.undo_journal.specs.Undo.{IsJournalled, room_of};
 
 use crate::fixtures::{dark_of, idle_of, settled};
@@ -24,7 +24,7 @@ fn device(rt: &impl Abort, alloc: Global, budgets: &[u32]) -> SimNv
 
 // A transaction on that device.
 fn opened(rt: &impl Abort, alloc: Global, budgets: &[u32]) -> Open<SimNv>
-    ensures room { 1 ≤ room_of (⟦<SimNv as Nv>⟧.words result) }
+    ensures room { room_of (⟦<SimNv as Nv>⟧.words result) ≡ 1280 }
 {
     idle_of(rt, settled(device(rt, alloc, budgets))).begin()
 }

@@ -1,4 +1,4 @@
-use Rattle.std.proofs.Common.{ℕ, ◌+◌, ◌*◌, ◌<◌, subst, sym, arith, below_more}
+use Rattle.std.proofs.Common.{ℕ, ◌+◌, ◌*◌, ◌<◌, subst, arith, below_more}
 use Rattle.undo_journal.specs.Undo.{outside}
 use Rattle.persistent_heap.specs.Holes.{IsTaken, free}
 use Rattle.memory_tests.proofs.heap_reads.words_read_behind_holes.Goals as goal
