@@ -4,7 +4,8 @@ use std::alloc::{AllocError, Global};
 use std::process::Abort;
 
 /// How the last boot of the two prints is reported, behind its number and where it starts.
-const LAST_BOOT: &str = "events 2\nticks 0\nthread 0 t priority 1 ready\nlist ready 1: 0\nconsole 4\n| a\n| b\n";
+const LAST_BOOT: &str =
+    "events 2\nticks 0\nthread 0 t priority 1 ready\nlist ready 1: 0\nconsole 4\n| a\n| b\n";
 
 /// The report of the two prints where each boot before the last is cut while it formats.
 fn report_of(alloc: Global, last: u32) -> Result<String, AllocError> {

@@ -83,19 +83,11 @@ fn check_row(rt: &impl Abort, alloc: Global, line: &str, program: &str, report: 
 
 /// Runs a program of thread `t` for so many steps on mains, and compares all that is written: how the run goes, and then
 /// the dump in two parts.
-fn check_dump(
-    rt: &impl Abort,
-    alloc: Global,
-    steps: u32,
-    program: &str,
-    state: &str,
-    rest: &str,
-) {
+fn check_dump(rt: &impl Abort, alloc: Global, steps: u32, program: &str, state: &str, rest: &str) {
     let line = format!(in alloc; "run p {steps}").expect(rt, "no memory");
     let report = format!(in alloc;
         "boot 1 start at 0 undone 0 replayed 0\nboot 1 thread 0 t:\nboot 1 end at {steps}\nevents {steps}\nticks 0\n{state}{rest}"
-    )
-    .expect(rt, "no memory");
+    ).expect(rt, "no memory");
     check_row(rt, alloc, &line, program, &report);
 }
 

@@ -7,12 +7,7 @@ use std::process::Abort;
 const MAGIC: u32 = 1_229_870_129;
 
 /// A run of five boots: the first is cut as it formats, the second and the fourth in an event, the third as it undoes.
-const FIVE_BOOTS: World = World {
-    line: "run p 2 16383 16387 1 2",
-    program: TWO_PRINTS.as_bytes(),
-    failing_readings: &[],
-    failing_puts: &[],
-};
+const FIVE_BOOTS: &str = "run p 2 16383 16387 1 2";
 
 #[test]
 fn a_second_put_fails(rt: HostRuntime) {
@@ -42,7 +37,7 @@ fn line_count(text: &[u8]) -> usize {
 fn check_put(rt: &impl Abort, alloc: Global, report: &[u8], lines: usize, put: u32) {
     let world = World {
         failing_puts: &[put],
-        ..FIVE_BOOTS
+        ..World::of(FIVE_BOOTS, TWO_PRINTS)
     };
     let left = left_by(rt, alloc, &world);
     assert_eq!(rt; left.status, 6, "put {put}");
@@ -52,7 +47,7 @@ fn check_put(rt: &impl Abort, alloc: Global, report: &[u8], lines: usize, put: u
 
 #[test]
 fn a_failing_sink_at_each_put(rt: HostRuntime) {
-    let whole = left_by(&rt, rt.alloc(), &FIVE_BOOTS);
+    let whole = left_by(&rt, rt.alloc(), &World::of(FIVE_BOOTS, TWO_PRINTS));
     let report = whole.sink.bytes();
     assert_eq!(rt; whole.status, 0);
     assert_eq!(rt; line_count(report), 18);

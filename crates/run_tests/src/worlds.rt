@@ -88,8 +88,9 @@ pub fn left_by(rt: &impl Abort, alloc: Global, world: &World) -> Left {
     let mut files = files_of(alloc, world).expect(rt, "no memory");
     let mut sink = sink_of(rt, alloc, world);
     let blank = Blank::new(1);
-    let Ended { status, nv } =
-        run_counted::<Brand>(rt, alloc, &words, &mut files, &mut sink, blank);
+    let Ended { status, nv } = run_counted::<Brand>(
+        rt, alloc, &words, &mut files, &mut sink, blank,
+    );
     Left { status, sink, nv }
 }
 
