@@ -8,14 +8,14 @@ use std::process::Abort;
 fn check_command(rt: &impl Abort, alloc: Global, line: &str, steps: u32, cuts: &[u32]) {
     let words = words_of(rt, alloc, line);
     let command = read_command(alloc, &words).expect(rt, line);
-    assert_eq!(rt; command.program, "p", "{line}");
-    assert_eq!(rt; command.steps, steps, "{line}");
-    assert_eq!(rt; command.cuts.as_slice(), cuts, "{line}");
+    assert_eq!(rt; command.program, "p");
+    assert_eq!(rt; (command.steps, command.cuts.as_slice()), (steps, cuts));
 }
 
-/// These words are no command's.
-fn check_usage(rt: &impl Abort, alloc: Global, words: &Vec<String>, line: &str) {
-    let fault = read_command(alloc, words).err();
+/// The words of a line are no command's.
+fn check_usage(rt: &impl Abort, alloc: Global, line: &str) {
+    let words = words_of(rt, alloc, line);
+    let fault = read_command(alloc, &words).err();
     assert_eq!(rt; fault, Some(CommandFault::Usage), "{line}");
 }
 
@@ -52,23 +52,20 @@ fn other_words(rt: HostRuntime) {
         "run p 2 0 one",
     ];
     for line in lines {
-        let words = words_of(&rt, rt.alloc(), line);
-        check_usage(&rt, rt.alloc(), &words, line);
+        check_usage(&rt, rt.alloc(), line);
     }
 }
 
 /// So many budgets of 7 behind `run p 2`.
-fn many_cuts(rt: &impl Abort, alloc: Global, count: usize) -> Vec<String> {
+fn many_cuts(rt: &impl Abort, alloc: Global, count: usize) -> String {
     let cuts = " 7".repeat(alloc, count).expect(rt, "no memory");
-    let line = format!(in alloc; "run p 2{cuts}").expect(rt, "no memory");
-    words_of(rt, alloc, &line)
+    format!(in alloc; "run p 2{cuts}").expect(rt, "no memory")
 }
 
 #[test]
 fn most_cuts(rt: HostRuntime) {
-    let words = many_cuts(&rt, rt.alloc(), 1_000);
+    let words = words_of(&rt, rt.alloc(), &many_cuts(&rt, rt.alloc(), 1_000));
     let command = read_command(rt.alloc(), &words).expect(&rt, "1,000 cuts");
     assert_eq!(rt; command.cuts.len(), 1_000);
-    let words = many_cuts(&rt, rt.alloc(), 1_001);
-    check_usage(&rt, rt.alloc(), &words, "1,001 cuts");
+    check_usage(&rt, rt.alloc(), &many_cuts(&rt, rt.alloc(), 1_001));
 }

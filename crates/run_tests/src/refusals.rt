@@ -15,14 +15,14 @@ const NOT_YET: &str = "program NotYet\n";
 
 /// Whether a device is as it was before the run.
 fn is_untouched(nv: &SimNv) -> bool {
-    nv.words().iter().all(|word| *word == 0) && nv.ends().is_empty()
+    nv.words().iter().max() == Some(&0) && nv.ends().is_empty()
 }
 
 /// Runs in a world where the run is refused with this line, and leaves the device untouched.
 fn check_unbegun(rt: &impl Abort, alloc: Global, world: &World, status: u8, told: &str) {
     let left = left_by(rt, alloc, world);
     check_left(rt, &left, world, status, told);
-    assert!(rt; is_untouched(&left.nv), "at {}: {told}", world.line);
+    assert!(rt; is_untouched(&left.nv));
 }
 
 /// Runs in a world where the run is refused, and again where the sink fails at the line of that: the status stays.

@@ -96,9 +96,8 @@ pub fn left_by(rt: &impl Abort, alloc: Global, world: &World) -> Left {
 
 /// The run ended with this status, and wrote these bytes.
 pub fn check_left(rt: &impl Abort, left: &Left, world: &World, status: u8, told: &str) {
-    let line = world.line;
-    assert_eq!(rt; left.status, status, "at {line}: {told}");
-    assert_eq!(rt; left.sink.bytes(), told.as_bytes(), "at {line}: {told}");
+    let found = (left.status, left.sink.bytes());
+    assert_eq!(rt; found, (status, told.as_bytes()), "at {}", world.line);
 }
 
 /// Runs in a world, and compares how the run ends and all that it writes.
