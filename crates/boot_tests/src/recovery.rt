@@ -18,12 +18,14 @@ const ONE_THREAD: &[u8] = b"thread t() priority 3 { yield; }\nstart t();\n";
 fn shows_one_thread<N: Nv + Drop>(rt: &impl Abort, kernel: Kernel<N>) {
     let Kernel { idle, contexts } = kernel;
     assert!(rt; contexts.get(0).is_some());
-    assert!(rt; contexts.get(1).is_none());
-    assert!(rt; contexts.get(15).is_none());
-    assert_eq!(rt; idle.word(1), 0);
-    assert_eq!(rt; idle.word(3), 1);
-    assert_eq!(rt; idle.word(1_152), 1);
-    assert_eq!(rt; idle.word(1_154), 3);
+    assert!(rt; contexts.get(1).is_none() && contexts.get(15).is_none());
+    let words = (
+        idle.word(1),
+        idle.word(3),
+        idle.word(1_152),
+        idle.word(1_154),
+    );
+    assert_eq!(rt; words, (0, 1, 1, 3));
     idle.rest();
 }
 
