@@ -45,20 +45,20 @@ pub(crate) fn assert_empty<N: Nv>(rt: &impl Abort, tx: &Open<N>)
     assert_eq!(rt; next, 0);
 }
 
-// The place of a block that is taken, or 0.
+// Takes a block that must lie at this place, or nowhere, which is 0.
 #[tactic(auto, using(persistent_heap::proofs::Callers::taken_laws))]
-pub(crate) fn taken<N: Nv>(rt: &impl Abort, tx: &mut Open<N>, words: u32) -> u32
+pub(crate) fn taken_at<N: Nv>(rt: &impl Abort, tx: &mut Open<N>, words: u32, place: u32)
     requires even { IsEven words }
     requires some { 2 ≤ words }
     requires few { words ≤ 12 }
     requires heap { IsHeap (holes (outside (N.words tx.old))) }
     ensures heap { IsHeap (holes (outside (N.words tx.new))) }
-    ensures block { 0 < result → IsTaken (free (outside (N.words tx.new))) result words }
+    ensures block { 0 < place → IsTaken (free (outside (N.words tx.new))) place words }
     ensures others { (first count : ℕ) → IsTaken (free (outside (N.words tx.old))) first count → IsTaken (free (outside (N.words tx.new))) first count }
 {
     assert!(rt; tx.room() >= 3);
     match take(tx, words) {
-        Ok(place) => place,
+        Ok(found) => assert!(rt; found == place, "{words} words at {found}, not {place}"),
         Err(_) => panic!(rt; "cut"),
     }
 }

@@ -1,27 +1,44 @@
 // Files that are read: in memory, of the system, and one that breaks.
 use outer_world::{DiskFiles, FileFault, Files, MemFile, MemFiles, read_within};
-use std::alloc::{AllocError, Global};
-use std::fs;
+use std::alloc::Global;
 use std::io::{self, ErrorKind, Read};
-use std::test::Fail;
+use std::process::Abort;
+use std::{fs, rt};
 
-fn file(alloc: Global, name: &str, bytes: &[u8]) -> Result<MemFile, AllocError> {
-    Ok(MemFile::new(String::from_str(alloc, name)?, bytes.to_vec(alloc)?))
+fn file(rt: &impl Abort, alloc: Global, name: &str, bytes: &[u8]) -> MemFile {
+    let name = String::from_str(alloc, name).expect(rt, "no memory");
+    let bytes = bytes.to_vec(alloc).expect(rt, "no memory");
+    MemFile::new(name, bytes)
 }
 
 // Files named a, a and b, whose calls of these numbers fail.
-fn two_files(alloc: Global, failing: &[u32]) -> Result<MemFiles, AllocError> {
+fn three_files(rt: &impl Abort, alloc: Global, failing: &[u32]) -> MemFiles {
+    let held: [(&str, &[u8]); 3] = [("a", b"abc"), ("a", b"other"), ("b", b"")];
     let mut files = Vec::new(alloc);
-    files.push(file(alloc, "a", b"abc")?)?;
-    files.push(file(alloc, "a", b"other")?)?;
-    files.push(file(alloc, "b", b"")?)?;
-    Ok(MemFiles::new(files, failing.to_vec(alloc)?))
+    for (name, bytes) in held {
+        assert!(rt; files.push(file(rt, alloc, name, bytes)).is_ok());
+    }
+    MemFiles::new(files, failing.to_vec(alloc).expect(rt, "no memory"))
+}
+
+// A file of this name, read up to this limit, gives this answer and leaves these bytes.
+fn assert_read(
+    rt: &impl Abort,
+    alloc: Global,
+    files: &mut MemFiles,
+    (name, limit): (&str, u32),
+    (answer, bytes): (Result<(), FileFault>, &[u8]),
+) {
+    let mut into = Vec::new(alloc);
+    let got = files.read_all(alloc, name, limit, &mut into);
+    assert_eq!(rt; got, answer, "at {name} {limit}");
+    assert_eq!(rt; into.as_slice(), bytes, "at {name} {limit}");
 }
 
 // The first file of a name is read whole, up to the limit, and a name without a file fails.
 #[test]
-fn files_in_memory(rt: HostRuntime) -> Result<(), Fail> {
-    let mut files = two_files(rt.alloc(), &[])?;
+fn files_in_memory(rt: HostRuntime) {
+    let mut files = three_files(&rt, rt.alloc(), &[]);
     let cases: [(&str, u32, Result<(), FileFault>, &[u8]); 5] = [
         ("a", 3, Ok(()), b"abc"),
         ("a", 2, Err(FileFault::TooLong), b""),
@@ -30,37 +47,46 @@ fn files_in_memory(rt: HostRuntime) -> Result<(), Fail> {
         ("a", 9, Ok(()), b"abc"),
     ];
     for (name, limit, answer, bytes) in cases {
-        let mut into = Vec::new(rt.alloc());
-        let got = files.read_all(rt.alloc(), name, limit, &mut into);
-        assert_eq!(rt; got, answer, "at {name} {limit}");
-        assert_eq!(rt; into.as_slice(), bytes, "at {name} {limit}");
+        assert_read(&rt, rt.alloc(), &mut files, (name, limit), (answer, bytes));
     }
-    Ok(())
 }
 
 // The readings whose numbers are listed fail, and the others don't.
 #[test]
-fn listed_readings_fail(rt: HostRuntime) -> Result<(), Fail> {
-    let mut files = two_files(rt.alloc(), &[3, 1])?;
-    for fails in [true, false, true, false] {
-        let mut into = Vec::new(rt.alloc());
-        let got = files.read_all(rt.alloc(), "a", 9, &mut into);
-        let answer = if fails {
-            Err(FileFault::Failed)
-        } else {
-            Ok(())
-        };
-        assert_eq!(rt; got, answer);
+fn listed_readings_fail(rt: HostRuntime) {
+    let mut files = three_files(&rt, rt.alloc(), &[3, 1]);
+    let calls: [(Result<(), FileFault>, &[u8]); 4] = [
+        (Err(FileFault::Failed), b""),
+        (Ok(()), b"abc"),
+        (Err(FileFault::Failed), b""),
+        (Ok(()), b"abc"),
+    ];
+    for end in calls {
+        assert_read(&rt, rt.alloc(), &mut files, ("a", 9), end);
     }
-    Ok(())
+}
+
+// A file of the system, read up to this limit, gives this answer, and 5,000 times the byte 7 where it is read whole.
+fn assert_read_from_disk<R: rt::Files>(
+    rt: &impl Abort,
+    alloc: Global,
+    files: &mut DiskFiles<R>,
+    (name, limit): (&str, u32),
+    answer: Result<(), FileFault>,
+) {
+    let mut into = Vec::new(alloc);
+    let got = files.read_all(alloc, name, limit, &mut into);
+    assert_eq!(rt; got, answer, "at {limit}");
+    if got.is_ok() {
+        assert_eq!(rt; into.as_slice(), [7u8; 5000].as_slice());
+    }
 }
 
 // A file of more than one piece is read whole, up to the limit, and fails once it is gone.
 #[test]
-fn files_of_the_system(rt: HostRuntime) -> Result<(), Fail> {
+fn files_of_the_system(rt: HostRuntime) {
     let name = "memory_tests_file.txt";
-    let written = vec![in rt.alloc(); 7u8; 5000]?;
-    fs::write(&rt, name, written.as_slice())?;
+    assert!(rt; fs::write(&rt, name, [7u8; 5000].as_slice()).is_ok());
     let mut files = DiskFiles::new(&rt);
     for (limit, answer) in [
         (5000, Ok(())),
@@ -68,18 +94,11 @@ fn files_of_the_system(rt: HostRuntime) -> Result<(), Fail> {
         (0, Err(FileFault::TooLong)),
         (1 << 20, Ok(())),
     ] {
-        let mut into = Vec::new(rt.alloc());
-        let got = files.read_all(rt.alloc(), name, limit, &mut into);
-        assert_eq!(rt; got, answer, "at {limit}");
-        if got.is_ok() {
-            assert_eq!(rt; into, written);
-        }
+        assert_read_from_disk(&rt, rt.alloc(), &mut files, (name, limit), answer);
     }
-    fs::remove_file(&rt, name)?;
-    let mut into = Vec::new(rt.alloc());
-    let missing = files.read_all(rt.alloc(), name, 9, &mut into);
-    assert_eq!(rt; missing, Err(FileFault::Failed));
-    Ok(())
+    assert!(rt; fs::remove_file(&rt, name).is_ok());
+    let gone = Err(FileFault::Failed);
+    assert_read_from_disk(&rt, rt.alloc(), &mut files, (name, 9), gone);
 }
 
 // Gives two bytes a call, and fails at its second call.

@@ -1,19 +1,18 @@
 // Where blocks are taken, and what becomes of the holes that they leave.
-use crate::blocks::{assert_empty, ended, formatted, given_back, opened, taken};
+use crate::blocks::{assert_empty, ended, formatted, given_back, opened, taken_at};
 
 // Each block is taken at the least place where it fits, also in holes that were given back.
 #[test]
 fn least_place(rt: HostRuntime) {
     let mut tx = opened(&rt, formatted(&rt, rt.alloc()));
-    let first = taken(&rt, &mut tx, 12);
-    let second = taken(&rt, &mut tx, 2);
-    let third = taken(&rt, &mut tx, 4);
-    assert_eq!(rt; (first, second, third), (2, 14, 16));
-    given_back(&rt, &mut tx, first, 12);
-    assert_eq!(rt; taken(&rt, &mut tx, 4), 2);
-    assert_eq!(rt; taken(&rt, &mut tx, 12), 20);
-    given_back(&rt, &mut tx, second, 2);
-    assert_eq!(rt; taken(&rt, &mut tx, 10), 6);
+    taken_at(&rt, &mut tx, 12, 2);
+    taken_at(&rt, &mut tx, 2, 14);
+    taken_at(&rt, &mut tx, 4, 16);
+    given_back(&rt, &mut tx, 2, 12);
+    taken_at(&rt, &mut tx, 4, 2);
+    taken_at(&rt, &mut tx, 12, 20);
+    given_back(&rt, &mut tx, 14, 2);
+    taken_at(&rt, &mut tx, 10, 6);
     ended(&rt, tx);
 }
 
@@ -22,11 +21,11 @@ fn least_place(rt: HostRuntime) {
 fn full_heap(rt: HostRuntime) {
     let mut tx = opened(&rt, formatted(&rt, rt.alloc()));
     for block in 0..341 {
-        assert_eq!(rt; taken(&rt, &mut tx, 12), 2 + 12 * block);
+        taken_at(&rt, &mut tx, 12, 2 + 12 * block);
     }
-    assert_eq!(rt; taken(&rt, &mut tx, 12), 0);
-    assert_eq!(rt; taken(&rt, &mut tx, 2), 4_094);
-    assert_eq!(rt; taken(&rt, &mut tx, 2), 0);
+    taken_at(&rt, &mut tx, 12, 0);
+    taken_at(&rt, &mut tx, 2, 4_094);
+    taken_at(&rt, &mut tx, 2, 0);
     ended(&rt, tx);
 }
 
@@ -34,11 +33,10 @@ fn full_heap(rt: HostRuntime) {
 #[test]
 fn merged_on_both_sides(rt: HostRuntime) {
     let mut tx = opened(&rt, formatted(&rt, rt.alloc()));
-    let first = taken(&rt, &mut tx, 2);
-    let second = taken(&rt, &mut tx, 2);
-    assert_eq!(rt; (first, second), (2, 4));
-    given_back(&rt, &mut tx, first, 2);
-    given_back(&rt, &mut tx, second, 2);
+    taken_at(&rt, &mut tx, 2, 2);
+    taken_at(&rt, &mut tx, 2, 4);
+    given_back(&rt, &mut tx, 2, 2);
+    given_back(&rt, &mut tx, 4, 2);
     assert_empty(&rt, &tx);
     ended(&rt, tx);
 }

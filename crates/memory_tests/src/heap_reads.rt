@@ -1,9 +1,9 @@
-// How many words the calls of the heap read, besides one that `taken` and `given_back` read each time to see the room.
+// How many words the calls of the heap read, besides one that `taken_at` and `given_back` read each time to see the room.
 ghost use Rattle.std.specs.Prelude.{ℕ, ◌+◌, ◌*◌, ◌<◌};
 ghost use Rattle.undo_journal.specs.Undo.{outside};
 ghost use Rattle.persistent_heap.specs.Holes.{IsHeap, IsTaken, holes, free};
 
-use crate::blocks::{ended, formatted, given_back, opened, taken};
+use crate::blocks::{ended, formatted, given_back, opened, taken_at};
 use crate::counted::Counted;
 use std::cell::Cell;
 
@@ -15,11 +15,11 @@ fn words_read(rt: HostRuntime) {
     let mut tx = opened(&rt, Counted { nv, reads: &reads });
     for block in 0..341 {
         reads.set(0);
-        assert_eq!(rt; taken(&rt, &mut tx, 12), 2 + 12 * block);
+        taken_at(&rt, &mut tx, 12, 2 + 12 * block);
         assert_eq!(rt; reads.get(), 15 + 1);
     }
     reads.set(0);
-    assert_eq!(rt; taken(&rt, &mut tx, 12), 0);
+    taken_at(&rt, &mut tx, 12, 0);
     assert_eq!(rt; reads.get(), 3 + 1);
     ended(&rt, tx);
 }
@@ -31,18 +31,17 @@ fn words_read_behind_holes(rt: HostRuntime) {
     let nv = formatted(&rt, rt.alloc());
     let mut tx = opened(&rt, Counted { nv, reads: &reads });
     for hole in 0..100u32 {
-        let place = taken(&rt, &mut tx, 2);
-        assert!(rt; place == 2 + 4 * hole);
-        assert_eq!(rt; taken(&rt, &mut tx, 2), 4 + 4 * hole);
+        taken_at(&rt, &mut tx, 2, 2 + 4 * hole);
+        taken_at(&rt, &mut tx, 2, 4 + 4 * hole);
     }
     for hole in 0..100u32 {
         given_back(&rt, &mut tx, 2 + 4 * hole, 2);
     }
     reads.set(0);
-    let block = taken(&rt, &mut tx, 12);
-    assert_eq!(rt; (block, reads.get()), (402, 215 + 1));
+    taken_at(&rt, &mut tx, 12, 402);
+    assert_eq!(rt; reads.get(), 215 + 1);
     reads.set(0);
-    given_back(&rt, &mut tx, block, 12);
+    given_back(&rt, &mut tx, 402, 12);
     assert_eq!(rt; reads.get(), 218 + 1);
     ended(&rt, tx);
 }

@@ -1,9 +1,9 @@
 // The words of a device in memory, under budgets of writes.
-ghost use Rattle.std.specs.Prelude.{◌≡◌, Some, None};
+ghost use Rattle.std.specs.Prelude.{◌≡◌, [], Some, None};
 
 use nv_memory::{Nv, SimNv, WORDS};
+use std::alloc::Global;
 use std::process::Abort;
-use std::test::Fail;
 
 // A write that is cut, and the next boot.
 fn cut_and_up(rt: &impl Abort, nv: &mut SimNv) {
@@ -14,13 +14,29 @@ fn cut_and_up(rt: &impl Abort, nv: &mut SimNv) {
     nv.power_up();
 }
 
-// Budgets cut writes, what was written before stays, and each boot that was cut leaves its words.
-#[test]
-fn budgets_cut(rt: HostRuntime) -> Result<(), Fail> {
-    let mut nv = SimNv::blank(rt.alloc())?;
+// A new device of 16,384 words, which are 0.
+fn blank(rt: &impl Abort, alloc: Global) -> SimNv
+    ensures left { ⟦<SimNv as Nv>⟧.left result ≡ None }
+    ensures to_come { ⟦<SimNv as Nv>⟧.to_come result ≡ [] }
+    ensures ends { ⟦<SimNv as Nv>⟧.ends result ≡ [] }
+{
+    let nv = SimNv::blank(alloc).expect(rt, "no memory");
     assert_eq!(rt; nv.words().len(), 16_384);
     assert!(rt; nv.words().iter().all(|word| *word == 0));
-    nv.plan(rt.alloc(), &[2, 0])?;
+    nv
+}
+
+// The words at the end of a boot: words 0, 1, 3 and the last one.
+fn assert_end(rt: &impl Abort, end: &[u32]) {
+    assert_eq!(rt; end.len(), 16_384);
+    assert_eq!(rt; (end[0], end[1], end[3], end[16_383]), (0, 5, 0, 6));
+}
+
+// Budgets cut writes, what was written before stays, and each boot that was cut leaves its words.
+#[test]
+fn budgets_cut(rt: HostRuntime) {
+    let mut nv = blank(&rt, rt.alloc());
+    assert!(rt; nv.plan(rt.alloc(), &[2, 0]).is_ok());
     assert!(rt; nv.write(1, 5).is_ok());
     assert!(rt; nv.write(WORDS - 1, 6).is_ok());
     cut_and_up(&rt, &mut nv);
@@ -32,8 +48,6 @@ fn budgets_cut(rt: HostRuntime) -> Result<(), Fail> {
     );
     assert_eq!(rt; nv.ends().len(), 2);
     for end in nv.ends() {
-        assert_eq!(rt; end.len(), 16_384);
-        assert_eq!(rt; (end[0], end[1], end[3], end[16_383]), (0, 5, 0, 6));
+        assert_end(&rt, end.as_slice());
     }
-    Ok(())
 }
