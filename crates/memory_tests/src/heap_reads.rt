@@ -1,4 +1,5 @@
-// How many words the calls of the heap read, besides one that `taken_at` and `given_back` read each time to see the room.
+// How many words the calls of the heap read, besides one that `taken_at` and `given_back` read each time to see the
+// room.
 ghost use Rattle.std.specs.Prelude.{ℕ, ◌+◌, ◌*◌, ◌<◌};
 ghost use Rattle.undo_journal.specs.Undo.{outside};
 ghost use Rattle.persistent_heap.specs.Holes.{IsHeap, IsTaken, holes, free};
