@@ -4,19 +4,19 @@ use intos_run::{CommandFault, read_command};
 use std::alloc::Global;
 use std::process::Abort;
 
-/// A line asks for a run of `p` with so many steps and these budgets.
-fn check_command(rt: &impl Abort, alloc: Global, line: &str, steps: u32, cuts: &[u32]) {
+/// A line asks for a run of `p` with so many steps and these budgets, or its words are no command's.
+fn check_line(rt: &impl Abort, alloc: Global, line: &str, asked: Option<(u32, &[u32])>) {
     let words = words_of(rt, alloc, line);
-    let command = read_command(alloc, &words).expect(rt, line);
-    assert_eq!(rt; command.program, "p");
-    assert_eq!(rt; (command.steps, command.cuts.as_slice()), (steps, cuts));
-}
-
-/// The words of a line are no command's.
-fn check_usage(rt: &impl Abort, alloc: Global, line: &str) {
-    let words = words_of(rt, alloc, line);
-    let fault = read_command(alloc, &words).err();
-    assert_eq!(rt; fault, Some(CommandFault::Usage), "{line}");
+    match read_command(alloc, &words) {
+        Ok(command) => {
+            assert_eq!(rt; command.program, "p");
+            assert_eq!(rt; Some((command.steps, command.cuts.as_slice())), asked);
+        }
+        Err(fault) => {
+            assert_eq!(rt; fault, CommandFault::Usage, "{line}");
+            assert!(rt; asked.is_none(), "{line}");
+        }
+    }
 }
 
 #[test]
@@ -31,7 +31,7 @@ fn commands(rt: HostRuntime) {
         ),
     ];
     for (line, steps, cuts) in cases {
-        check_command(&rt, rt.alloc(), line, steps, cuts);
+        check_line(&rt, rt.alloc(), line, Some((steps, cuts)));
     }
 }
 
@@ -52,20 +52,17 @@ fn other_words(rt: HostRuntime) {
         "run p 2 0 one",
     ];
     for line in lines {
-        check_usage(&rt, rt.alloc(), line);
+        check_line(&rt, rt.alloc(), line, None);
     }
 }
 
-/// So many budgets of 7 behind `run p 2`.
-fn many_cuts(rt: &impl Abort, alloc: Global, count: usize) -> String {
-    let cuts = " 7".repeat(alloc, count).expect(rt, "no memory");
-    format!(in alloc; "run p 2{cuts}").expect(rt, "no memory")
-}
-
+/// A thousand budgets are taken, and one more is refused.
 #[test]
 fn most_cuts(rt: HostRuntime) {
-    let words = words_of(&rt, rt.alloc(), &many_cuts(&rt, rt.alloc(), 1_000));
-    let command = read_command(rt.alloc(), &words).expect(&rt, "1,000 cuts");
-    assert_eq!(rt; command.cuts.len(), 1_000);
-    check_usage(&rt, rt.alloc(), &many_cuts(&rt, rt.alloc(), 1_001));
+    let words = " 7".repeat(rt.alloc(), 1_000).expect(&rt, "no memory");
+    let cuts = vec![in rt.alloc(); 7u32; 1_000].expect(&rt, "no memory");
+    let line = format!(in rt.alloc(); "run p 2{words}").expect(&rt, "no memory");
+    check_line(&rt, rt.alloc(), &line, Some((2, cuts.as_slice())));
+    let line = format!(in rt.alloc(); "run p 2{words} 7").expect(&rt, "no memory");
+    check_line(&rt, rt.alloc(), &line, None);
 }

@@ -3,13 +3,19 @@
 #![tactic(auto)]
 
 #[cfg(test)]
+mod boots;
+#[cfg(test)]
 mod commands;
 #[cfg(test)]
 mod cuts;
 #[cfg(test)]
+mod mains;
+#[cfg(test)]
+mod programs;
+#[cfg(test)]
 mod refusals;
 #[cfg(test)]
-mod rows;
+mod reports;
 #[cfg(test)]
 mod sinks;
 #[cfg(test)]

@@ -1,20 +1,16 @@
 // Words of a command line.
-use std::alloc::{AllocError, Global};
+use std::alloc::Global;
 use std::process::Abort;
 
 /// The words of a line, with a space between each two: none of an empty line.
-fn split_words(alloc: Global, line: &str) -> Result<Vec<String>, AllocError> {
+pub fn words_of(rt: &impl Abort, alloc: Global, line: &str) -> Vec<String> {
     let mut words = Vec::new(alloc);
     if line.is_empty() {
-        return Ok(words);
+        return words;
     }
     for word in line.split(' ') {
-        words.push(String::from_str(alloc, word)?)?;
+        let word = String::from_str(alloc, word).expect(rt, "no memory");
+        words.push(word).expect(rt, "no memory");
     }
-    Ok(words)
-}
-
-/// The words of a line.
-pub fn words_of(rt: &impl Abort, alloc: Global, line: &str) -> Vec<String> {
-    split_words(alloc, line).expect(rt, "no memory")
+    words
 }

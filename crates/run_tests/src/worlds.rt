@@ -12,7 +12,8 @@ use std::sync::ledger::{Blank, Ledger};
 use step_counter::Steps;
 
 /// The program of the two prints `a` and `b`.
-pub const TWO_PRINTS: &str = "thread t() priority 1 {\nprint \"a\";\nprint \"b\";\n}\nstart t();\n";
+pub const TWO_PRINTS: &[u8] =
+    b"thread t() priority 1 {\nprint \"a\";\nprint \"b\";\n}\nstart t();\n";
 
 /// The bytes that the sink has room for, more than any report here has.
 const ROOM: u32 = 65_536;
@@ -30,20 +31,12 @@ pub struct World<'a> {
     pub failing_puts: &'a [u32],
 }
 
-/// What a run left.
-#[derive(Drop)]
-pub struct Left {
-    pub status: u8,
-    pub sink: MemSink,
-    pub nv: SimNv,
-}
-
 impl<'a> World<'a> {
     /// A world in which nothing fails.
-    pub fn of(line: &'a str, program: &'a str) -> World<'a> {
+    pub fn of(line: &'a str, program: &'a [u8]) -> World<'a> {
         World {
             line,
-            program: program.as_bytes(),
+            program,
             failing_readings: &[],
             failing_puts: &[],
         }
@@ -56,12 +49,6 @@ fn files_of(alloc: Global, world: &World) -> Result<MemFiles, AllocError> {
     let mut files = Vec::new(alloc);
     files.push(MemFile::new(name, world.program.to_vec(alloc)?))?;
     Ok(MemFiles::new(files, world.failing_readings.to_vec(alloc)?))
-}
-
-/// The sink of a world, which has taken nothing.
-fn sink_of(rt: &impl Abort, alloc: Global, world: &World) -> MemSink {
-    let failing = world.failing_puts.to_vec(alloc).expect(rt, "no memory");
-    MemSink::new(alloc, ROOM, failing).expect(rt, "no memory")
 }
 
 /// Runs words on a blank device, with a counter on this ledger.
@@ -82,26 +69,23 @@ fn run_counted<L: Ledger>(
     run(alloc, words, files, sink, nv, &mut steps)
 }
 
-/// What the words of a world leave there.
-pub fn left_by(rt: &impl Abort, alloc: Global, world: &World) -> Left {
+/// Runs in a world, and compares the status with which the run ends and all that it writes. What it leaves is the device.
+pub fn device_left_by(
+    rt: &impl Abort,
+    alloc: Global,
+    world: &World,
+    status: u8,
+    told: &str,
+) -> SimNv {
     let words = words_of(rt, alloc, world.line);
     let mut files = files_of(alloc, world).expect(rt, "no memory");
-    let mut sink = sink_of(rt, alloc, world);
+    let failing = world.failing_puts.to_vec(alloc).expect(rt, "no memory");
+    let mut sink = MemSink::new(alloc, ROOM, failing).expect(rt, "no memory");
     let blank = Blank::new(1);
     let Ended { status, nv } = run_counted::<Brand>(
         rt, alloc, &words, &mut files, &mut sink, blank,
     );
-    Left { status, sink, nv }
-}
-
-/// The run ended with this status, and wrote these bytes.
-pub fn check_left(rt: &impl Abort, left: &Left, world: &World, status: u8, told: &str) {
-    let found = (left.status, left.sink.bytes());
+    let found = (status, sink.bytes());
     assert_eq!(rt; found, (status, told.as_bytes()), "at {}", world.line);
-}
-
-/// Runs in a world, and compares how the run ends and all that it writes.
-pub fn check_run(rt: &impl Abort, alloc: Global, world: &World, status: u8, told: &str) {
-    let left = left_by(rt, alloc, world);
-    check_left(rt, &left, world, status, told);
+    nv
 }

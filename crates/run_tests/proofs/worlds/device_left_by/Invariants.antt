@@ -1,4 +1,4 @@
-use Rattle.run_tests.proofs.worlds.left_by.Given as goal
+use Rattle.run_tests.proofs.worlds.device_left_by.Given as goal
 
 abbrev pub ghosts-run_counted : goal.ghosts-run_counted
 ghosts-run_counted g a = record { name = a.blank.name; parts = a.blank.parts }
