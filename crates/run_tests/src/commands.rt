@@ -6,7 +6,7 @@ use std::process::Abort;
 
 /// A line asks for a run of `p` with so many steps and these budgets, or its words are no command's.
 fn check_line(rt: &impl Abort, alloc: Global, line: &str, asked: Option<(u32, &[u32])>) {
-    let words = words_of(rt, alloc, line);
+    let words = words_of(alloc, line).expect(rt, "no memory");
     match read_command(alloc, &words) {
         Ok(command) => {
             assert_eq!(rt; command.program, "p");

@@ -77,7 +77,7 @@ pub fn device_left_by(
     status: u8,
     told: &str,
 ) -> SimNv {
-    let words = words_of(rt, alloc, world.line);
+    let words = words_of(alloc, world.line).expect(rt, "no memory");
     let mut files = files_of(alloc, world).expect(rt, "no memory");
     let failing = world.failing_puts.to_vec(alloc).expect(rt, "no memory");
     let mut sink = MemSink::new(alloc, ROOM, failing).expect(rt, "no memory");
