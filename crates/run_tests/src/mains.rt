@@ -10,7 +10,8 @@ use std::process::Abort;
 /// A line of the console that `FILLING` prints, which is 65 bytes there.
 const FILLED: &str = "| xxxxxxxxxxxxxxxxxxxxxxxxxxxxxxxxxxxxxxxxxxxxxxxxxxxxxxxxxxxxxxxx\n";
 
-/// Runs a program for so many steps, and compares all that is written. The console has a line so many times, and then an end.
+/// Runs a program for so many steps, and compares all that is written. The console has a line so many times, and then
+/// an end.
 fn check_dump(
     rt: &impl Abort,
     alloc: Global,
