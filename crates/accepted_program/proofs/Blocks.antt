@@ -1,5 +1,5 @@
 -- A block is determined by its tokens.
-use Rattle.std.proofs.Common.{◌≡◌, ℕ, false, eqb, List, Some, sym, refl}
+use Rattle.std.proofs.Common.{◌≡◌, ℕ, false, eqb, List, ◌∷◌, Some, None, sym, ap, refl}
 use Rattle.thread_tree.specs.declared.place.At.{At}
 use Rattle.thread_tree.specs.declared.place.Place.{Place}
 use Rattle.thread_tree.specs.declared.token.Mark.TheVariants as mark
@@ -8,16 +8,19 @@ use Rattle.thread_tree.specs.Grammar.{word_number}
 use Rattle.thread_tree.specs.declared.action.Call.{Call}
 use Rattle.thread_tree.specs.declared.block.Block.{Block}
 use Rattle.thread_tree.specs.declared.block.Stmt.{Stmt}
+use Rattle.thread_tree.specs.declared.block.Stmt.TheOpen as stmt
 use Rattle.thread_tree.specs.declared.transaction.TBlock.{TBlock}
 use Rattle.thread_tree.specs.Spelling.{TakesMark}
-use Rattle.thread_tree.specs.SpellingOfCalls.{SpellsCall, print, spawn, delete, delay, setprio, getprio, send, receive, take, give, now, yield, waiting}
+use Rattle.thread_tree.specs.SpellingOfCalls.{SpellsCall}
+use Rattle.thread_tree.specs.Pieces.{word_of, shape}
+use Rattle.thread_tree.proofs.Callers.{has_shape}
 use Rattle.thread_tree.specs.SpellingOfTransactions.{SpellsTBlock, tblock}
 use Rattle.thread_tree.specs.SpellingOfBlocks.{SpellsGiven, no_given, given, SpellsBlock, block, SpellsStmts, no_stmts, stmts, SpellsStmt, let_to, set, apply_to, apply, if_only, if_else, while_loop, ploop, break_loop, return_only, return_value, atomic, call}
-use Rattle.accepted_program.specs.Same.{SameBlock, same_block, SameStmts, no_same_stmts, same_stmts, SameStmt, same_let, same_set, same_apply, same_if, same_if_else, same_while, same_ploop, same_break, same_return, same_return_value, same_atomic, same_call}
 use Rattle.accepted_program.proofs.Calls.{arguments_one, call_one, results_one, results_close}
 use Rattle.accepted_program.proofs.Transactions.{tblock_one}
+use Rattle.accepted_program.proofs.Layers.{same_stmt, same_block}
 use Rattle.accepted_program.proofs.Follows.{Closed, semicolon, opening_parenthesis, opening_brace, expr_before, no_semicolon, name_expr}
-use Rattle.accepted_program.proofs.Openings.{Opening, opens, told, class_of, class_of_word, NoElse}
+use Rattle.accepted_program.proofs.Openings.{Opening, opens, told, class_of, class_of_word, class_by, NoElse}
 use Rattle.accepted_program.proofs.Lists.{names_one}
 use Rattle.accepted_program.proofs.Takes.{any, takes_one, takes_any, clash, name_one, any_from}
 
@@ -36,19 +39,7 @@ block_opens (block o d c) = opening_brace (any o)
 
 call_opens : {place : Place} {p a : List Placed} {c : Call} → SpellsCall place p a c → Opening class_of 50 p
 unfolding class_of class_of_word
-call_opens (print t l) = opens class_of 50 (any t) refl
-call_opens (spawn t n o l) = opens class_of 50 (any t) refl
-call_opens (delete t w) = opens class_of 50 (any t) refl
-call_opens (delay t x) = opens class_of 50 (any t) refl
-call_opens (setprio t w c x) = opens class_of 50 (any t) refl
-call_opens (getprio t w) = opens class_of 50 (any t) refl
-call_opens (send t n c v d x) = opens class_of 50 (any t) refl
-call_opens (receive t n c x) = opens class_of 50 (any t) refl
-call_opens (take t n c x) = opens class_of 50 (any t) refl
-call_opens (give t n) = opens class_of 50 (any t) refl
-call_opens (now t) = opens class_of 50 (any t) refl
-call_opens (yield t) = opens class_of 50 (any t) refl
-call_opens (waiting t n) = opens class_of 50 (any t) refl
+call_opens {c} h = opens class_of 50 (any h.word) (ap (class_by (word_of c)) (has_shape c).0)
 
 -- the kind of a statement's first token
 unfoldable number : {p a : List Placed} {s : Stmt} → SpellsStmt p a s → ℕ
@@ -67,7 +58,7 @@ number (atomic h w g b) = 17
 number (call h c l) = 50
 
 opening : {p a : List Placed} {s : Stmt} (d : SpellsStmt p a s) → Opening class_of (number d) p
-unfolding number class_of class_of_word word_number
+unfolding number class_of class_of_word word_number shape
 opening (let_to h l n q x m) = opens class_of 10 l refl
 opening (set h n q x m) = opens class_of 100 (any n) refl
 opening (apply_to h n q k o l m) = opens class_of 100 (any n) refl
@@ -119,38 +110,38 @@ brace_apart e d h = told (number d) 101 e (opening d) (opens class_of 101 h (unf
 
 stmts_no_else : {p a b : List Placed} {ss : List Stmt} → SpellsStmts p a ss → TakesMark mark.CloseBrace a b → NoElse p
 stmts_no_else no_stmts h c k = clash refl h k (λ x. cc)
-stmts_no_else (stmts d rest) h c k = told (number d) 12 refl (opening d) (opens class_of 12 k (unfold class_of class_of_word word_number in refl)) (stmt_no_else d)
+stmts_no_else (stmts d rest) h c k = told (number d) 12 refl (opening d) (opens class_of 12 k (unfold class_of class_of_word word_number shape in refl)) (stmt_no_else d)
 
 mutual
   unfolding number
 
-  pub block_one : {p q a b : List Placed} {x y : Block} → p ≡ q → SpellsBlock p a x → SpellsBlock q b y → (a ≡ b) × SameBlock x y
+  pub block_one : {p q a b : List Placed} {x y : Block} → p ≡ q → SpellsBlock p a x → SpellsBlock q b y → (a ≡ b) × (x ≡ y)
   block_one e (block o d c) (block o2 d2 c2) =
       let head = takes_one e o o2 in
       let inside = stmts_one head.2 d d2 c c2 in
       ((takes_any inside.0 c c2).1, same_block head.1 inside.1)
 
-  stmts_one : {p q a b v w : List Placed} {ss ts : List Stmt} → p ≡ q → SpellsStmts p a ss → SpellsStmts q b ts → TakesMark mark.CloseBrace a v → TakesMark mark.CloseBrace b w → (a ≡ b) × SameStmts ss ts
-  stmts_one e no_stmts no_stmts h k = (e, no_same_stmts)
+  stmts_one : {p q a b v w : List Placed} {ss ts : List Stmt} → p ≡ q → SpellsStmts p a ss → SpellsStmts q b ts → TakesMark mark.CloseBrace a v → TakesMark mark.CloseBrace b w → (a ≡ b) × (ss ≡ ts)
+  stmts_one e no_stmts no_stmts h k = (e, refl)
   stmts_one e no_stmts (stmts d rest) h k = absurd (brace_apart (sym e) d h)
   stmts_one e (stmts d rest) no_stmts h k = absurd (brace_apart e d k)
   stmts_one e (stmts d rest) (stmts d2 rest2) h k =
       let first = stmt_one e d d2 (stmts_no_else rest h) (stmts_no_else rest2 k) in
       let further = stmts_one first.0 rest rest2 h k in
-      (further.0, same_stmts first.1 further.1)
+      (further.0, λ i. first.1 i ∷ further.1 i)
 
-  stmt_one : {p q a b : List Placed} {s t : Stmt} → p ≡ q → SpellsStmt p a s → SpellsStmt q b t → NoElse a → NoElse b → (a ≡ b) × SameStmt s t
+  stmt_one : {p q a b : List Placed} {s t : Stmt} → p ≡ q → SpellsStmt p a s → SpellsStmt q b t → NoElse a → NoElse b → (a ≡ b) × (s ≡ t)
   stmt_one e (let_to h l n q x m) (let_to h2 l2 n2 q2 x2 m2) s r =
       let head = takes_any e l l2 in
       let name = name_one head.1 n n2 in
       let sign = takes_any name.0 q q2 in
       let value = expr_before sign.1 x x2 (semicolon m).followed (semicolon m2).followed in
-      ((takes_any value.0 m m2).1, same_let h h2 name.1 value.1)
+      ((takes_any value.0 m m2).1, same_stmt h h2 (λ i. stmt.Let (name.1 i) (value.1 i)))
   stmt_one e (set h n q x m) (set h2 n2 q2 x2 m2) s r =
       let name = name_one e n n2 in
       let sign = takes_any name.0 q q2 in
       let value = expr_before sign.1 x x2 (semicolon m).followed (semicolon m2).followed in
-      ((takes_any value.0 m m2).1, same_set h h2 name.1 value.1)
+      ((takes_any value.0 m m2).1, same_stmt h h2 (λ i. stmt.Set (name.1 i) (value.1 i)))
   stmt_one e (set h n q x m) (apply_to h2 n2 q2 k2 o2 l2 m2) s r =
       let name = name_one e n n2 in
       let sign = takes_any name.0 q q2 in
@@ -169,7 +160,7 @@ mutual
       let sign = takes_any name.0 q q2 in
       let function = name_one sign.1 k k2 in
       let all = arguments_one (takes_any function.0 o o2).1 l l2 in
-      ((takes_any all.0 m m2).1, same_apply h h2 (λ i. Some (name.1 i)) function.1 all.1)
+      ((takes_any all.0 m m2).1, same_stmt h h2 (λ i. stmt.Apply (Some (name.1 i)) (function.1 i) (all.1 i)))
   stmt_one e (apply_to h n q k o l m) (apply h2 n2 o2 l2 m2) s r =
       let name = name_one e n n2 in
       absurd (clash name.0 q o2 (λ x. cc))
@@ -182,12 +173,12 @@ mutual
   stmt_one e (apply h n o l m) (apply h2 n2 o2 l2 m2) s r =
       let function = name_one e n n2 in
       let all = arguments_one (takes_any function.0 o o2).1 l l2 in
-      ((takes_any all.0 m m2).1, same_apply h h2 refl function.1 all.1)
+      ((takes_any all.0 m m2).1, same_stmt h h2 (λ i. stmt.Apply None (function.1 i) (all.1 i)))
   stmt_one e (if_only h i x b) (if_only h2 i2 x2 b2) s r =
       let head = takes_any e i i2 in
       let value = expr_before head.1 x x2 (block_opens b).followed (block_opens b2).followed in
       let inside = block_one value.0 b b2 in
-      (inside.0, same_if h h2 value.1 inside.1)
+      (inside.0, same_stmt h h2 (λ i. stmt.If (value.1 i) (inside.1 i) None))
   stmt_one e (if_only h i x b) (if_else h2 i2 x2 b2 l2 c2) s r =
       let head = takes_any e i i2 in
       let value = expr_before head.1 x x2 (block_opens b).followed (block_opens b2).followed in
@@ -204,22 +195,22 @@ mutual
       let inside = block_one value.0 b b2 in
       let else_word = takes_any inside.0 l l2 in
       let other = block_one else_word.1 c c2 in
-      (other.0, same_if_else h h2 value.1 inside.1 other.1)
+      (other.0, same_stmt h h2 (λ i. stmt.If (value.1 i) (inside.1 i) (Some (other.1 i))))
   stmt_one e (while_loop h w x b) (while_loop h2 w2 x2 b2) s r =
       let head = takes_any e w w2 in
       let value = expr_before head.1 x x2 (block_opens b).followed (block_opens b2).followed in
       let inside = block_one value.0 b b2 in
-      (inside.0, same_while h h2 value.1 inside.1)
+      (inside.0, same_stmt h h2 (λ i. stmt.While (value.1 i) (inside.1 i)))
   stmt_one e (ploop h w b) (ploop h2 w2 b2) s r =
       let head = takes_one e w w2 in
       let inside = block_one head.2 b b2 in
-      (inside.0, same_ploop h h2 head.1 inside.1)
+      (inside.0, same_stmt h h2 (λ i. stmt.Ploop (head.1 i) (inside.1 i)))
   stmt_one e (break_loop h w m) (break_loop h2 w2 m2) s r =
       let head = takes_one e w w2 in
-      ((takes_any head.2 m m2).1, same_break h h2 head.1)
+      ((takes_any head.2 m m2).1, same_stmt h h2 (λ i. stmt.Break (head.1 i)))
   stmt_one e (return_only h w m) (return_only h2 w2 m2) s r =
       let head = takes_one e w w2 in
-      ((takes_any head.2 m m2).1, same_return h h2 head.1)
+      ((takes_any head.2 m m2).1, same_stmt h h2 (λ i. stmt.Return (head.1 i) None))
   stmt_one e (return_only h w m) (return_value h2 w2 x2 m2) s r =
       let head = takes_one e w w2 in
       absurd (no_semicolon (sym head.2) x2 m)
@@ -229,14 +220,14 @@ mutual
   stmt_one e (return_value h w x m) (return_value h2 w2 x2 m2) s r =
       let head = takes_one e w w2 in
       let value = expr_before head.2 x x2 (semicolon m).followed (semicolon m2).followed in
-      ((takes_any value.0 m m2).1, same_return_value h h2 head.1 value.1)
+      ((takes_any value.0 m m2).1, same_stmt h h2 (λ i. stmt.Return (head.1 i) (Some (value.1 i))))
   stmt_one e (atomic h w g b) (atomic h2 w2 g2 b2) s r =
       let head = takes_one e w w2 in
       let names = given_one head.2 g g2 (tblock_brace b).1 (tblock_brace b2).1 in
       let inside = tblock_one names.0 b b2 in
-      (inside.0, same_atomic h h2 head.1 names.1 inside.1)
+      (inside.0, same_stmt h h2 (λ i. stmt.Atomic (head.1 i) (names.1 i) (inside.1 i)))
   stmt_one e (call h c l) (call h2 c2 l2) s r =
       let asked = call_one e c c2 (results_close l) (results_close l2) in
       let names = results_one asked.1 l l2 in
-      (names.0, same_call h h2 asked.0 asked.2 names.1)
+      (names.0, same_stmt h h2 (λ i. stmt.Call (asked.0 i) (asked.2 i) (names.1 i)))
   stmt_one e d f s r = absurd (told (number d) (number f) e (opening d) (opening f) refl)

@@ -9,6 +9,7 @@ use Rattle.thread_tree.specs.declared.place.At.{At}
 use Rattle.thread_tree.specs.declared.token.Mark.TheVariants as mark
 use Rattle.thread_tree.specs.declared.token.Placed.{Placed}
 use Rattle.thread_tree.specs.declared.token.Token.TheVariants as token
+use Rattle.thread_tree.specs.Expressions as made
 use Rattle.thread_tree.specs.Levels.{level_of}
 use Rattle.thread_tree.specs.Spelling.{TakesAny, TakesMark, SpellsName, SpellsField, SpellsLevel, number, local, member, parenthesised, prefixed, binary, tighter}
 
@@ -19,7 +20,7 @@ mutual
     a_local : {p a : List Placed} {name : At} → SpellsName p a name → Operand fields p a (expr.Local name)
     a_field : {p a : List Placed} {f : FieldOf} → SpellsField p a f → Operand fields p a (expr.Field f)
     inner : {p a b c : List Placed} {e : Expr} → TakesMark mark.OpenParenthesis p a → Chain fields 7 a b e → TakesMark mark.CloseParenthesis b c → Operand fields p c e
-    behind : {p a b : List Placed} {o : Op} {q : _} {e : Expr} → TakesAny (token.Operator o) p a → Chain fields 0 a b e → Operand fields p b (expr.Prefix' o q e)
+    behind : {p a b : List Placed} {o : Op} {e : Expr} → TakesAny (token.Operator o) p a → Chain fields 0 a b e → Operand fields p b (made.unary o e)
 
   pub data Chain (fields : Bool) : ℕ → List Placed → List Placed → Expr → Type 0 where
     bare : {p a : List Placed} {e : Expr} → Operand fields p a e → Chain fields zero p a e
@@ -28,7 +29,7 @@ mutual
   -- operators of the level with their right sides, from the tree so far to the whole
   pub data Tail (fields : Bool) : ℕ → List Placed → List Placed → Expr → Expr → Type 0 where
     done : {n : ℕ} {p : List Placed} {e : Expr} → Tail fields n p p e e
-    next : {n : ℕ} {p a b c : List Placed} {o : Op} {q r : _} {left right e : Expr} → level_of o + suc n ≡ 8 → TakesAny (token.Operator o) p a → Chain fields n a b right → Tail fields n b c (expr.Binary' o q left r right) e → Tail fields n p c left e
+    next : {n : ℕ} {p a b c : List Placed} {o : Op} {left right e : Expr} → level_of o + suc n ≡ 8 → TakesAny (token.Operator o) p a → Chain fields n a b right → Tail fields n b c (made.binary o left right) e → Tail fields n p c left e
 
 pub level_low : (o : Op) → level_of o ≤ 7
 unfolding level_of
@@ -61,11 +62,11 @@ above (prefixed i h k) g = omega arith
 above (binary {op = o} h l t r) g = let low = level_low o in omega arith
 above (tighter h) g = above h (omega arith)
 
-longer : {fields : Bool} {n : ℕ} {p a b c : List Placed} {o : Op} {q r : _} {x left right : Expr} → Tail fields n p a x left → level_of o + suc n ≡ 8 → TakesAny (token.Operator o) a b → Chain fields n b c right → Tail fields n p c x (expr.Binary' o q left r right)
+longer : {fields : Bool} {n : ℕ} {p a b c : List Placed} {o : Op} {x left right : Expr} → Tail fields n p a x left → level_of o + suc n ≡ 8 → TakesAny (token.Operator o) a b → Chain fields n b c right → Tail fields n p c x (made.binary o left right)
 longer done h t d = next h t d done
 longer (next g s e more) h t d = next g s e (longer more h t d)
 
-grown : {fields : Bool} {n : ℕ} {p a b c : List Placed} {o : Op} {q r : _} {left right : Expr} → Chain fields (suc n) p a left → level_of o + suc n ≡ 8 → TakesAny (token.Operator o) a b → Chain fields n b c right → Chain fields (suc n) p c (expr.Binary' o q left r right)
+grown : {fields : Bool} {n : ℕ} {p a b c : List Placed} {o : Op} {left right : Expr} → Chain fields (suc n) p a left → level_of o + suc n ≡ 8 → TakesAny (token.Operator o) a b → Chain fields n b c right → Chain fields (suc n) p c (made.binary o left right)
 grown (level d more) h t e = level d (longer more h t e)
 
 alone : {fields : Bool} {p a : List Placed} {e : Expr} (n : ℕ) → 8 + n ≡ 8 → Operand fields p a e → Chain fields n p a e

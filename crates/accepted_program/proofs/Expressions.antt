@@ -1,6 +1,7 @@
 -- An expression is determined by its tokens and one token behind it.
 use Rattle.std.proofs.Common.{◌≡◌, ◌+◌, ◌<◌, ℕ, suc, Bool, List, sym, subst, refl, arith}
 use Rattle.thread_tree.specs.declared.expr.Expr.{Expr}
+use Rattle.thread_tree.specs.declared.expr.Expr.TheVariants as expr
 use Rattle.thread_tree.specs.declared.expr.FieldOf.{FieldOf}
 use Rattle.thread_tree.specs.declared.expr.FieldOf.TheVariants as field
 use Rattle.thread_tree.specs.declared.expr.Op.{Op}
@@ -10,9 +11,9 @@ use Rattle.thread_tree.specs.declared.token.Mark.TheVariants as mark
 use Rattle.thread_tree.specs.declared.token.Placed.{Placed}
 use Rattle.thread_tree.specs.declared.token.Token.{Token}
 use Rattle.thread_tree.specs.declared.token.Token.TheVariants as token
+use Rattle.thread_tree.specs.Expressions as made
 use Rattle.thread_tree.specs.Levels.{level_of, binding}
 use Rattle.thread_tree.specs.Spelling.{TakesAny, TakesMark, SpellsName, SpellsField, SpellsExpr, static, through}
-use Rattle.accepted_program.specs.Same.{SameExpr, same_number, same_local, same_field, same_prefix, same_binary}
 use Rattle.accepted_program.proofs.Chains.{Operand, Chain, Tail, a_number, a_local, a_field, inner, behind, bare, level, done, next, chain}
 use Rattle.accepted_program.proofs.Takes.{any, takes_any, clash, name_one, any_from}
 
@@ -78,20 +79,20 @@ not_field e h (static o d m) s = s _ (any_from (name_one e h o).0 d)
 not_field e h (through o d k f m) s = s _ (any_from (name_one e h o).0 d)
 
 mutual
-  operand_one : {fields : Bool} {p q a b : List Placed} {x y : Expr} → p ≡ q → Operand fields p a x → Operand fields q b y → Stops 0 a → Stops 0 b → (a ≡ b) × SameExpr x y
-  operand_one e (a_number t) (a_number u) s r = let one = takes_any e t u in (one.1, same_number (number_same one.0))
+  operand_one : {fields : Bool} {p q a b : List Placed} {x y : Expr} → p ≡ q → Operand fields p a x → Operand fields q b y → Stops 0 a → Stops 0 b → (a ≡ b) × (x ≡ y)
+  operand_one e (a_number t) (a_number u) s r = let one = takes_any e t u in (one.1, λ i. expr.Num (number_same one.0 i))
   operand_one e (a_number t) (a_local u) s r = absurd (clash e t (any u) (λ x. cc))
   operand_one e (a_number t) (a_field u) s r = absurd (clash e t (any (field_first u).2) (λ x. cc))
   operand_one e (a_number t) (inner u f g) s r = absurd (clash e t u (λ x. cc))
   operand_one e (a_number t) (behind u f) s r = absurd (clash e t u (λ x. cc))
   operand_one e (a_local t) (a_number u) s r = absurd (clash e (any t) u (λ x. cc))
-  operand_one e (a_local t) (a_local u) s r = let one = name_one e t u in (one.0, same_local one.1)
+  operand_one e (a_local t) (a_local u) s r = let one = name_one e t u in (one.0, λ i. expr.Local (one.1 i))
   operand_one e (a_local t) (a_field u) s r = absurd (not_field e t u (no_dot _ s))
   operand_one e (a_local t) (inner u f g) s r = absurd (clash e (any t) u (λ x. cc))
   operand_one e (a_local t) (behind u f) s r = absurd (clash e (any t) u (λ x. cc))
   operand_one e (a_field t) (a_number u) s r = absurd (clash e (any (field_first t).2) u (λ x. cc))
   operand_one e (a_field t) (a_local u) s r = absurd (not_field (sym e) u t (no_dot _ r))
-  operand_one e (a_field t) (a_field u) s r = let one = field_one e t u (no_dot _ s) (no_dot _ r) in (one.0, same_field one.1)
+  operand_one e (a_field t) (a_field u) s r = let one = field_one e t u (no_dot _ s) (no_dot _ r) in (one.0, λ i. expr.Field (one.1 i))
   operand_one e (a_field t) (inner u f g) s r = absurd (clash e (any (field_first t).2) u (λ x. cc))
   operand_one e (a_field t) (behind u f) s r = absurd (clash e (any (field_first t).2) u (λ x. cc))
   operand_one e (inner t d c) (a_number u) s r = absurd (clash e t u (λ x. cc))
@@ -109,23 +110,23 @@ mutual
   operand_one e (behind t d) (behind u f) s r =
       let first = takes_any e t u in
       let inside = chain_one first.1 d f s r in
-      (inside.0, same_prefix (operator_same first.0) inside.1)
+      (inside.0, λ i. made.unary (operator_same first.0 i) (inside.1 i))
 
-  chain_one : {fields : Bool} {n : ℕ} {p q a b : List Placed} {x y : Expr} → p ≡ q → Chain fields n p a x → Chain fields n q b y → Stops n a → Stops n b → (a ≡ b) × SameExpr x y
+  chain_one : {fields : Bool} {n : ℕ} {p q a b : List Placed} {x y : Expr} → p ≡ q → Chain fields n p a x → Chain fields n q b y → Stops n a → Stops n b → (a ≡ b) × (x ≡ y)
   chain_one e (bare o) (bare u) s r = operand_one e o u s r
   chain_one e (level d more) (level f rest) s r =
       let first = chain_one e d f (tail_stops more s) (tail_stops rest r) in
       tail_one first.0 more rest first.1 s r
 
-  tail_one : {fields : Bool} {n : ℕ} {p q a b : List Placed} {v w x y : Expr} → p ≡ q → Tail fields n p a v x → Tail fields n q b w y → SameExpr v w → Stops (suc n) a → Stops (suc n) b → (a ≡ b) × SameExpr x y
+  tail_one : {fields : Bool} {n : ℕ} {p q a b : List Placed} {v w x y : Expr} → p ≡ q → Tail fields n p a v x → Tail fields n q b w y → v ≡ w → Stops (suc n) a → Stops (suc n) b → (a ≡ b) × (x ≡ y)
   tail_one e done done same s r = (e, same)
   tail_one e done (next g t d more) same s r = absurd (no_next _ g (any_from e t) s)
   tail_one e (next g t d more) done same s r = absurd (no_next _ g (any_from (sym e) t) r)
   tail_one e (next g t d more) (next h u f rest) same s r =
       let first = takes_any e t u in
       let right = chain_one first.1 d f (tail_stops more s) (tail_stops rest r) in
-      tail_one right.0 more rest (same_binary (operator_same first.0) same right.1) s r
+      tail_one right.0 more rest (λ i. made.binary (operator_same first.0 i) (same i) (right.1 i)) s r
 
 -- an expression
-pub expr_one : {fields : Bool} {p q a b : List Placed} {x y : Expr} → p ≡ q → SpellsExpr fields p a x → SpellsExpr fields q b y → Stops 7 a → Stops 7 b → (a ≡ b) × SameExpr x y
+pub expr_one : {fields : Bool} {p q a b : List Placed} {x y : Expr} → p ≡ q → SpellsExpr fields p a x → SpellsExpr fields q b y → Stops 7 a → Stops 7 b → (a ≡ b) × (x ≡ y)
 expr_one e d f s r = chain_one e (chain d 7 refl) (chain f 7 refl) s r

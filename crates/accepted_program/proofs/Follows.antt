@@ -10,7 +10,6 @@ use Rattle.thread_tree.specs.declared.token.Token.{Token}
 use Rattle.thread_tree.specs.declared.token.Token.TheVariants as token
 use Rattle.thread_tree.specs.declared.token.Word.TheVariants as word
 use Rattle.thread_tree.specs.Spelling.{TakesAny, TakesMark, SpellsName, SpellsLevel, SpellsExpr, number, local, member, parenthesised, prefixed, binary, tighter}
-use Rattle.accepted_program.specs.Same.{SameExpr}
 use Rattle.accepted_program.proofs.Expressions.{NoDot, mark_stops, field_first, expr_one}
 use Rattle.accepted_program.proofs.Takes.{any, takes_any}
 
@@ -60,7 +59,7 @@ pub no_comma : {p a : List Placed} → Closed p → TakesMark mark.Comma p a →
 no_comma c h = c.is_no_comma (let same : token.Mark c.followed.found ≡ token.Mark mark.Comma = (takes_any refl c.followed.takes h).0 in cc)
 
 -- an expression before such a mark
-pub expr_before : {fields : Bool} {p q a b : List Placed} {x y : Expr} → p ≡ q → SpellsExpr fields p a x → SpellsExpr fields q b y → Followed a → Followed b → (a ≡ b) × SameExpr x y
+pub expr_before : {fields : Bool} {p q a b : List Placed} {x y : Expr} → p ≡ q → SpellsExpr fields p a x → SpellsExpr fields q b y → Followed a → Followed b → (a ≡ b) × (x ≡ y)
 expr_before e d f s r = expr_one e d f (mark_stops s.is_no_dot 7 (omega arith) s.takes) (mark_stops r.is_no_dot 7 (omega arith) r.takes)
 
 -- the name of a local is an expression

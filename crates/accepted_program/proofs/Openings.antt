@@ -1,5 +1,5 @@
 -- Statements and declarations are told apart by their first tokens.
-use Rattle.std.proofs.Common.{◌≡◌, ◌∙◌, ℕ, false, eqb, List, sym, ap, subst}
+use Rattle.std.proofs.Common.{◌≡◌, ◌∙◌, ℕ, false, eqb, List, Option, Some, None, sym, ap, subst}
 use Rattle.std.proofs.Math.Facts.{yes_eqb}
 use Rattle.std.proofs.Math.Dec.{T}
 use Rattle.thread_tree.specs.declared.token.Placed.{Placed}
@@ -7,7 +7,9 @@ use Rattle.thread_tree.specs.declared.token.Token.{Token}
 use Rattle.thread_tree.specs.declared.token.Token.TheVariants as token
 use Rattle.thread_tree.specs.declared.token.Word.{Word}
 use Rattle.thread_tree.specs.declared.token.Word.TheVariants as word
+use Rattle.thread_tree.specs.declared.slot.Slot.{Slot}
 use Rattle.thread_tree.specs.Grammar.{word_number}
+use Rattle.thread_tree.specs.Pieces.{shape}
 use Rattle.thread_tree.specs.Spelling.{TakesAny}
 use Rattle.accepted_program.proofs.Takes.{takes_any}
 
@@ -17,22 +19,13 @@ kind_of (token.Word w) = word_number w
 kind_of (token.Name _) = 100
 kind_of _ = 101
 
--- the same with one number, 50, for all words of calls
+-- the same with one number, 50, for all words that have places behind them: those of calls
+abbrev pub class_by : Word → Option (List Slot) → ℕ
+class_by w (Some slots) = 50
+class_by w None = word_number w
+
 unfoldable pub class_of_word : Word → ℕ
-class_of_word word.Print = 50
-class_of_word word.Spawn = 50
-class_of_word word.Delete = 50
-class_of_word word.Delay = 50
-class_of_word word.Setprio = 50
-class_of_word word.Getprio = 50
-class_of_word word.Send = 50
-class_of_word word.Receive = 50
-class_of_word word.Take = 50
-class_of_word word.Give = 50
-class_of_word word.Now = 50
-class_of_word word.Yield = 50
-class_of_word word.Waiting = 50
-class_of_word w = word_number w
+class_of_word w = class_by w (shape w)
 
 unfoldable pub class_of : Token → ℕ
 class_of (token.Word w) = class_of_word w

@@ -2,7 +2,7 @@
 use Rattle.std.specs.Prelude.{◌≡◌, ℕ, List, None}
 use Rattle.thread_tree.specs.declared.tree.Tree.{Tree}
 use Rattle.thread_tree.specs.SpellingOfDeclarations.{SpellsProgram}
-use Rattle.thread_tokens.specs.Scan.{Scan, scan_of}
+use Rattle.thread_tokens.specs.Scan.{scan_of}
 use Rattle.thread_text.specs.Verdict.{Fine, verdict}
 use Rattle.thread_check.specs.Faults.{fault_of}
 

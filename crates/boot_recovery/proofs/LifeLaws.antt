@@ -36,18 +36,7 @@ kind_or_zero (Some action) = action.kind
 
 call_few : (c : Call) → kind_of_call c ≤ 16
 call_few (call.Print items) = omega arith
-call_few (call.Spawn template arguments) = omega arith
-call_few (call.Delete whom) = omega arith
-call_few (call.Delay ticks) = omega arith
-call_few (call.Setprio whom priority) = omega arith
-call_few (call.Getprio whom) = omega arith
-call_few (call.Send queue value limit) = omega arith
-call_few (call.Receive queue limit) = omega arith
-call_few (call.Take semaphore limit) = omega arith
-call_few (call.Give semaphore) = omega arith
-call_few call.Now = omega arith
-call_few call.Yield = omega arith
-call_few (call.Waiting queue) = omega arith
+call_few c = omega arith
 
 layer_few : (layer : Stmt-F Stmt Block) → kind_or_zero (action_layer layer) ≤ 16
 layer_few (stmt.Let at e) = omega arith

@@ -4,14 +4,16 @@ use Rattle.std.proofs.lemmas.Bool.Decides.{nat_tests}
 use Rattle.thread_tree.specs.declared.place.Place.{Place}
 use Rattle.thread_tree.specs.declared.place.At.{At}
 use Rattle.thread_tree.specs.declared.action.Call.{Call}
-use Rattle.thread_tree.specs.declared.action.Call.TheVariants as call
 use Rattle.thread_tree.specs.declared.action.Item.{Item}
 use Rattle.thread_tree.specs.declared.action.Item.TheVariants as item
 use Rattle.thread_tree.specs.declared.action.Who.{Who}
 use Rattle.thread_tree.specs.declared.action.Who.TheVariants as who
 use Rattle.thread_tree.specs.declared.token.Placed.{Placed}
-use Rattle.thread_tree.specs.Spelling.{SpellsNames, Separated, one as one_thing, more}
-use Rattle.thread_tree.specs.SpellingOfCalls.{SpellsItem, text, value, SpellsWho, own, of, SpellsArguments, no_arguments, arguments, SpellsResults, no_results, results, SpellsCall, print, spawn, delete, delay, setprio, getprio, send, receive, take, give, now, yield, waiting}
+use Rattle.thread_tree.specs.Spelling.{SpellsName, SpellsNames, Separated, one as one_thing, more}
+use Rattle.thread_tree.specs.SpellingOfCalls.{SpellsItem, text, value, SpellsWho, own, of, SpellsArguments, no_arguments, arguments, SpellsResults, no_results, results, SpellsPiece, name_piece, value_piece, whom_piece, items_piece, applied_piece, SpellsPieces, no_pieces, some_pieces, SpellsCall}
+use Rattle.thread_tree.specs.Pieces.{Piece, named, valued, whom, itemized, applied, pieces}
+use Rattle.thread_tree.specs.declared.needed.Needed.{Needed}
+use Rattle.thread_tree.specs.declared.needed.Needed.TheVariants.{Queue, Semaphore}
 use Rattle.thread_check.specs.declared.fault.Kind.TheVariants as kind
 use Rattle.thread_check.specs.declared.fault.CheckFault.{CheckFault}
 use Rattle.thread_check.specs.declared.fault.CheckFault.TheVariants.{NotAllowedHere, WrongCount}
@@ -19,12 +21,12 @@ use Rattle.thread_check.specs.Verdict.{Verdict, fine, ◌>>◌, same_count, with
 use Rattle.thread_check.specs.Scope.{Scope}
 use Rattle.thread_check.specs.Names.{Names, sort_of_declaration, sort_of, arity, is_among}
 use Rattle.thread_check.specs.Uses.{same_sort, fitting, used}
-use Rattle.thread_check.specs.Calls.{once, further_taker, further_takers, takers, who_rule, counted_item, item_rule, items_rule, call_rule}
+use Rattle.thread_check.specs.Calls.{once, further_taker, further_takers, takers, who_rule, counted_item, item_rule, items_rule, sort_of as sort_needed, piece_rule, pieces_rule, call_rule}
 use Rattle.fault_places.specs.Order.{place_of, rank_of}
 use Rattle.fault_places.specs.Sorts.{used_as_local, used_as_queue, used_as_semaphore, used_as_thread}
 use Rattle.fault_places.specs.Found.{found_by}
 use Rattle.fault_places.specs.OfExpressions.{expression_faults, expressions_faults}
-use Rattle.fault_places.specs.OfCalls.{further_taker_faults, further_takers_faults, first_taker_faults, takers_faults, who_faults, counted_faults, item_faults, items_faults, call_faults}
+use Rattle.fault_places.specs.OfCalls.{further_taker_faults, further_takers_faults, first_taker_faults, takers_faults, who_faults, counted_faults, item_faults, items_faults, needed_faults, piece_faults, pieces_faults, call_faults}
 use Rattle.fault_places.proofs.Answers.{Finds, verdict_of, one, none, both, joined_finds, both_if, joined_if, first_fine, second_fine, fine_first}
 use Rattle.fault_places.proofs.Ways.{AreIn, in_also, raised, found_at, if_not, Meets, none_met, at_both, then_way, meet, meet_last, skip, skip_placed, then_last}
 use Rattle.fault_places.proofs.Steps.{counted_met}
@@ -176,41 +178,54 @@ module _ (names : Names) (scope : Scope) where
   items_met before (one_thing d) = then_way (item_met (before + 1) d) none_met
   items_met before (more d c rest) = then_way (item_met (before + 1) d) (skip c (items_met (before + 1) rest))
 
+  -- a piece of a call
+  needed_finds : (needed : Needed) (name : At) → Finds (used names scope (sort_needed needed) name) (needed_faults names scope needed name)
+  unfolding sort_of_declaration
+  needed_finds Queue name = one (used_as_queue names scope name)
+  needed_finds Semaphore name = one (used_as_semaphore names scope name)
+
+  piece_finds : (p : Piece) → Finds (piece_rule names scope p) (piece_faults names scope p)
+  unfolding sort_of_declaration
+  piece_finds (named needed name) = needed_finds needed name
+  piece_finds (valued e) = expression_finds names scope e
+  piece_finds (whom w) = who_finds w
+  piece_finds (itemized items) = items_find 0 items
+  piece_finds (applied template es) =
+      joined_finds (used_as_thread names scope template) (same_count template.place (arity names template.name) (length es))
+      (both (one (used_as_thread names scope template)) (one (same_count template.place (arity names template.name) (length es))))
+      (expressions_find names scope es)
+
+  pieces_find : (ps : List Piece) → Finds (pieces_rule names scope ps) (pieces_faults names scope ps)
+  pieces_find [] = none
+  pieces_find (p ∷ []) = piece_finds p
+  pieces_find (p ∷ q ∷ ps) = both (piece_finds p) (pieces_find (q ∷ ps))
+
+  needed_met : {a b : List Placed} (needed : Needed) {name : At} → SpellsName a b name → Meets a b (needed_faults names scope needed name)
+  needed_met Queue {name} n = meet_last n (used_at names scope _ name)
+  needed_met Semaphore {name} n = meet_last n (used_at names scope _ name)
+
+  piece_met : {a b : List Placed} {p : Piece} → SpellsPiece a b p → Meets a b (piece_faults names scope p)
+  piece_met (name_piece {needed} n) = needed_met needed n
+  piece_met (value_piece d) = expression_met names scope d
+  piece_met (whom_piece w) = who_met w
+  piece_met (items_piece l) = items_met 0 l
+  piece_met (applied_piece {template} {es} n o l) =
+      meet n (at_both (used_at names scope _ template) (count_at template.place (arity names template.name) (length es))) (skip o (arguments_met l))
+
+  pieces_met : {a b : List Placed} {ps : List Piece} → Separated SpellsPiece a b ps → Meets a b (pieces_faults names scope ps)
+  pieces_met (one_thing d) = piece_met d
+  pieces_met (more d c (one_thing e)) = then_way (piece_met d) (skip c (pieces_met (one_thing e)))
+  pieces_met (more d c (more e f rest)) = then_way (piece_met d) (skip c (pieces_met (more e f rest)))
+
+  operands_met : {a b : List Placed} {ps : List Piece} → SpellsPieces a b ps → Meets a b (pieces_faults names scope ps)
+  operands_met no_pieces = none_met
+  operands_met (some_pieces l) = pieces_met l
+
   -- a call
   pub call_finds : (c : Call) → Finds (call_rule names scope c) (call_faults names scope c)
-  unfolding call_rule call_faults sort_of_declaration
-  call_finds (call.Print items) = items_find 0 items
-  call_finds (call.Spawn thread es) =
-      joined_finds (used_as_thread names scope thread) (same_count thread.place (arity names thread.name) (length es))
-      (both (one (used_as_thread names scope thread)) (one (same_count thread.place (arity names thread.name) (length es))))
-      (expressions_find names scope es)
-  call_finds (call.Delete whom) = who_finds whom
-  call_finds (call.Delay ticks) = expression_finds names scope ticks
-  call_finds (call.Setprio whom priority) = both (who_finds whom) (expression_finds names scope priority)
-  call_finds (call.Getprio whom) = who_finds whom
-  call_finds (call.Send queue v limit) =
-      both (one (used_as_queue names scope queue)) (both (expression_finds names scope v) (expression_finds names scope limit))
-  call_finds (call.Receive queue limit) = both (one (used_as_queue names scope queue)) (expression_finds names scope limit)
-  call_finds (call.Take semaphore limit) = both (one (used_as_semaphore names scope semaphore)) (expression_finds names scope limit)
-  call_finds (call.Give semaphore) = one (used_as_semaphore names scope semaphore)
-  call_finds call.Now = none
-  call_finds call.Yield = none
-  call_finds (call.Waiting queue) = one (used_as_queue names scope queue)
+  unfolding call_rule call_faults
+  call_finds c = pieces_find (pieces c)
 
   pub call_met : {place : Place} {a b : List Placed} {c : Call} → SpellsCall place a b c → Meets a b (call_faults names scope c)
   unfolding call_faults
-  call_met (print t l) = skip_placed t (items_met 0 l)
-  call_met (spawn {thread} {es} t n o l) =
-      skip_placed t (meet n (at_both (used_at names scope _ thread) (count_at thread.place (arity names thread.name) (length es))) (skip o (arguments_met l)))
-  call_met (delete t w) = skip_placed t (who_met w)
-  call_met (delay t x) = skip_placed t (expression_met names scope x)
-  call_met (setprio t w c x) = skip_placed t (then_way (who_met w) (skip c (expression_met names scope x)))
-  call_met (getprio t w) = skip_placed t (who_met w)
-  call_met (send {queue} t n c v d x) =
-      skip_placed t (meet n (used_at names scope _ queue) (skip c (then_way (expression_met names scope v) (skip d (expression_met names scope x)))))
-  call_met (receive {queue} t n c x) = skip_placed t (meet n (used_at names scope _ queue) (skip c (expression_met names scope x)))
-  call_met (take {semaphore} t n c x) = skip_placed t (meet n (used_at names scope _ semaphore) (skip c (expression_met names scope x)))
-  call_met (give {semaphore} t n) = skip_placed t (meet_last n (used_at names scope _ semaphore))
-  call_met (now t) = skip_placed t none_met
-  call_met (yield t) = skip_placed t none_met
-  call_met (waiting {queue} t n) = skip_placed t (meet_last n (used_at names scope _ queue))
+  call_met s = skip_placed s.word (operands_met s.operands)

@@ -1,6 +1,6 @@
 -- The faults of expressions: the first of them, and where they are met.
 use Rattle.std.proofs.Common.{ℕ, Bool, List, [], ◌∷◌, arith}
-use Rattle.thread_tree.specs.declared.expr.Expr.{Expr}
+use Rattle.thread_tree.specs.declared.expr.Expr.{Expr, more_of-Expr, end_of-Expr}
 use Rattle.thread_tree.specs.declared.expr.Expr.TheVariants as expr
 use Rattle.thread_tree.specs.declared.expr.FieldOf.{FieldOf}
 use Rattle.thread_tree.specs.declared.expr.FieldOf.TheVariants as field
@@ -37,8 +37,8 @@ module _ (names : Names) (scope : Scope) where
   expression_finds (expr.Num value) = none
   expression_finds (expr.Local at) = one (used_as_local names scope at)
   expression_finds (expr.Field f) = field_finds f
-  expression_finds (expr.Prefix' op p e) = expression_finds e
-  expression_finds (expr.Binary' op p x q y) = both (expression_finds x) (expression_finds y)
+  expression_finds (expr.Prefix' op p (more_of-Expr e end_of-Expr)) = expression_finds e
+  expression_finds (expr.Binary' op p (more_of-Expr x end_of-Expr) q (more_of-Expr y end_of-Expr)) = both (expression_finds x) (expression_finds y)
 
   pub expression_met : {fields : Bool} {level : ℕ} {a b : List Placed} {e : Expr} → SpellsLevel fields level a b e → Meets a b (expression_faults names scope e)
   expression_met (number n) = skip n none_met

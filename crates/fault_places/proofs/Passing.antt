@@ -11,8 +11,9 @@ use Rattle.thread_tree.specs.declared.action.Who.{Who}
 use Rattle.thread_tree.specs.declared.token.Placed.{Placed}
 use Rattle.thread_tree.specs.declared.token.Token.{Token}
 use Rattle.thread_tree.specs.Spelling.{Takes, TakesAny, SpellsNames, SpellsNumber, SpellsField, static, through, SpellsLevel, number, local, member, parenthesised, prefixed, binary, tighter, SpellsExpr, Separated, one, more}
-use Rattle.thread_tree.specs.SpellingOfCalls.{BeginsAt, SpellsItem, text, value, SpellsWho, own, of, SpellsArguments, no_arguments, arguments, SpellsResults, no_results, results, SpellsCall, print, spawn, delete, delay, setprio, getprio, send, receive, take, give, now, yield, waiting}
-use Rattle.fault_places.specs.PlacesOf.{in_each, of_name, of_number, of_field, of_expression, of_item, of_who, of_call}
+use Rattle.thread_tree.specs.SpellingOfCalls.{BeginsAt, SpellsItem, text, value, SpellsWho, own, of, SpellsArguments, no_arguments, arguments, SpellsResults, no_results, results, SpellsPiece, name_piece, value_piece, whom_piece, items_piece, applied_piece, SpellsPieces, no_pieces, some_pieces, SpellsCall}
+use Rattle.thread_tree.specs.Pieces.{Piece}
+use Rattle.fault_places.specs.PlacesOf.{in_each, of_name, of_number, of_field, of_expression, of_item, of_who, of_piece, of_call}
 use Rattle.fault_places.specs.Passed.{no_more_there, also_there, ArePassed, passed_none, passed_token}
 
 -- a token with a place of the tree, and then a way
@@ -67,10 +68,10 @@ first_place : {a : List Placed} {t u : Placed} {r q : List Placed} → a ≡ t �
 first_place {t} {u} e f = let same : t ≡ u = cc in ap (λ x. x.place) same
 
 with_first : {place : Place} {t : Placed} {a b c : List Placed} {ps : List Place} → BeginsAt place a → a ≡ t ∷ b → ArePassed b c ps → ArePassed a c (place ∷ ps)
-with_first begins is way = let same = first_place begins.first is in rw is (passed_token (also_there same no_more_there) way refl)
+with_first begins is way = let same = first_place begins.first.first is in rw is (passed_token (also_there same no_more_there) way refl)
 
 with_own : {place own_place : Place} {t : Token} {a b c : List Placed} {ps : List Place} → BeginsAt place a → Takes t own_place a b → ArePassed b c ps → ArePassed a c (place ∷ own_place ∷ ps)
-with_own begins takes way = let same = first_place begins.first takes.first in rw (takes.first) (passed_token (also_there same (also_there refl no_more_there)) way refl)
+with_own begins takes way = let same = first_place begins.first.first takes.first in rw (takes.first) (passed_token (also_there same (also_there refl no_more_there)) way refl)
 
 value_passed : {fields : Bool} {level : ℕ} {place : Place} {a b : List Placed} {e : Expr} → BeginsAt place a → SpellsLevel fields level a b e → ArePassed a b (place ∷ of_expression e)
 value_passed begins (number n) = with_first begins n.first passed_none
@@ -101,18 +102,17 @@ who_passed : {a b : List Placed} {w : Who} → SpellsWho a b w → ArePassed a b
 who_passed (own w) = pass w passed_none
 who_passed (of e) = expression_passed e
 
+piece_passed : {a b : List Placed} {p : Piece} → SpellsPiece a b p → ArePassed a b (of_piece p)
+piece_passed (name_piece n) = mark n passed_none
+piece_passed (value_piece d) = expression_passed d
+piece_passed (whom_piece w) = who_passed w
+piece_passed (items_piece l) = each_passed {places = of_item} (λ a b x d. item_passed d) l
+piece_passed (applied_piece n o l) = mark n (pass o (arguments_passed l))
+
+pieces_passed : {a b : List Placed} {ps : List Piece} → SpellsPieces a b ps → ArePassed a b (in_each of_piece ps)
+pieces_passed no_pieces = passed_none
+pieces_passed (some_pieces l) = each_passed {places = of_piece} (λ a b p d. piece_passed d) l
+
 -- a call, with the place of its word
 pub call_passed : {place : Place} {a b : List Placed} {c : Call} → SpellsCall place a b c → ArePassed a b (place ∷ of_call c)
-call_passed (print t l) = mark t (each_passed {places = of_item} (λ a b x d. item_passed d) l)
-call_passed (spawn t n o l) = mark t (mark n (pass o (arguments_passed l)))
-call_passed (delete t w) = mark t (who_passed w)
-call_passed (delay t x) = mark t (expression_passed x)
-call_passed (setprio t w c x) = mark t (then_passed (who_passed w) (pass c (expression_passed x)))
-call_passed (getprio t w) = mark t (who_passed w)
-call_passed (send t n c v d x) = mark t (mark n (pass c (then_passed (expression_passed v) (pass d (expression_passed x)))))
-call_passed (receive t n c x) = mark t (mark n (pass c (expression_passed x)))
-call_passed (take t n c x) = mark t (mark n (pass c (expression_passed x)))
-call_passed (give t n) = mark t (mark n passed_none)
-call_passed (now t) = mark t passed_none
-call_passed (yield t) = mark t passed_none
-call_passed (waiting t n) = mark t (mark n passed_none)
+call_passed s = mark s.word (pieces_passed s.operands)

@@ -136,7 +136,7 @@ one_first {t} {u} e f = let same : t ≡ u = cc in ap (λ x. x.place) same
 -- an item with the count of items
 pub counted_met : {a c : List Placed} (place : Place) (limit fs : List CheckFault) → AreIn place 5 5 limit → BeginsAt place a → StepsFrom a c fs → Meets a c (counted_faults place limit fs)
 counted_met {a} {c} place limit fs here at s =
-    let is = one_first s.begins at.first in
+    let is = one_first s.begins at.first.first in
     let at_place = subst (λ p. AreIn p 5 0 s.there) is s.here in
     let group = subst (λ p. AreAt p (s.there ++ limit)) (sym is) (all_at (at_both at_place here)) in
     let whole = taken s.begins group s.way in

@@ -3,11 +3,13 @@ use Rattle.std.specs.Prelude.{ℕ, ◌+◌, Bool, if◌then◌else◌, List, [],
 use Rattle.thread_tree.specs.declared.place.Place.{Place}
 use Rattle.thread_tree.specs.declared.place.At.{At}
 use Rattle.thread_tree.specs.declared.action.Call.{Call}
-use Rattle.thread_tree.specs.declared.action.Call.TheVariants as call
 use Rattle.thread_tree.specs.declared.action.Item.{Item}
 use Rattle.thread_tree.specs.declared.action.Item.TheVariants as item
 use Rattle.thread_tree.specs.declared.action.Who.{Who}
 use Rattle.thread_tree.specs.declared.action.Who.TheVariants as who
+use Rattle.thread_tree.specs.declared.needed.Needed.{Needed}
+use Rattle.thread_tree.specs.declared.needed.Needed.TheVariants.{Queue, Semaphore}
+use Rattle.thread_tree.specs.Pieces.{Piece, named, valued, whom, itemized, applied, pieces}
 use Rattle.thread_check.specs.declared.fault.Kind.TheVariants as kind
 use Rattle.thread_check.specs.declared.fault.CheckFault.{CheckFault}
 use Rattle.thread_check.specs.declared.fault.CheckFault.TheVariants.{WrongCount}
@@ -69,22 +71,26 @@ abbrev pub spawned_faults : Names → Scope → At → ℕ → List CheckFault
 spawned_faults names scope thread count =
     found_by (used_as_thread names scope thread) ++ found_by (same_count thread.place (arity names thread.name) count)
 
+-- the faults of a name that has to be declared so
+abbrev pub needed_faults : Names → Scope → Needed → At → List CheckFault
+needed_faults names scope Queue name = found_by (used_as_queue names scope name)
+needed_faults names scope Semaphore name = found_by (used_as_semaphore names scope name)
+
+-- the faults of a piece of a call
+abbrev pub piece_faults : Names → Scope → Piece → List CheckFault
+piece_faults names scope (named needed name) = needed_faults names scope needed name
+piece_faults names scope (valued e) = expression_faults names scope e
+piece_faults names scope (whom w) = who_faults names scope w
+piece_faults names scope (itemized items) = items_faults names scope 0 items
+piece_faults names scope (applied template arguments) =
+    spawned_faults names scope template (length arguments) ++ expressions_faults names scope arguments
+
+-- the faults of pieces one after another
+abbrev pub pieces_faults : Names → Scope → List Piece → List CheckFault
+pieces_faults names scope [] = []
+pieces_faults names scope (p ∷ []) = piece_faults names scope p
+pieces_faults names scope (p ∷ q ∷ ps) = piece_faults names scope p ++ pieces_faults names scope (q ∷ ps)
+
 -- the faults of a call without the names that take its results
 unfoldable pub call_faults : Names → Scope → Call → List CheckFault
-call_faults names scope (call.Print items) = items_faults names scope 0 items
-call_faults names scope (call.Spawn thread arguments) =
-    spawned_faults names scope thread (length arguments) ++ expressions_faults names scope arguments
-call_faults names scope (call.Delete whom) = who_faults names scope whom
-call_faults names scope (call.Delay ticks) = expression_faults names scope ticks
-call_faults names scope (call.Setprio whom priority) = who_faults names scope whom ++ expression_faults names scope priority
-call_faults names scope (call.Getprio whom) = who_faults names scope whom
-call_faults names scope (call.Send queue value limit) =
-    found_by (used_as_queue names scope queue) ++ (expression_faults names scope value ++ expression_faults names scope limit)
-call_faults names scope (call.Receive queue limit) =
-    found_by (used_as_queue names scope queue) ++ expression_faults names scope limit
-call_faults names scope (call.Take semaphore limit) =
-    found_by (used_as_semaphore names scope semaphore) ++ expression_faults names scope limit
-call_faults names scope (call.Give semaphore) = found_by (used_as_semaphore names scope semaphore)
-call_faults names scope call.Now = []
-call_faults names scope call.Yield = []
-call_faults names scope (call.Waiting queue) = found_by (used_as_queue names scope queue)
+call_faults names scope c = pieces_faults names scope (pieces c)

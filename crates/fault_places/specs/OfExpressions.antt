@@ -1,6 +1,6 @@
 -- The faults of expressions.
 use Rattle.std.specs.Prelude.{List, [], ◌∷◌, ◌++◌}
-use Rattle.thread_tree.specs.declared.expr.Expr.{Expr}
+use Rattle.thread_tree.specs.declared.expr.Expr.{Expr, more_of-Expr, end_of-Expr}
 use Rattle.thread_tree.specs.declared.expr.Expr.TheVariants as expr
 use Rattle.thread_tree.specs.declared.expr.FieldOf.{FieldOf}
 use Rattle.thread_tree.specs.declared.expr.FieldOf.TheVariants as field
@@ -24,8 +24,8 @@ abbrev pub expression_faults : Names → Scope → Expr → List CheckFault
 expression_faults names scope (expr.Num value) = []
 expression_faults names scope (expr.Local at) = found_by (used_as_local names scope at)
 expression_faults names scope (expr.Field f) = field_faults names scope f
-expression_faults names scope (expr.Prefix' op p e) = expression_faults names scope e
-expression_faults names scope (expr.Binary' op p x q y) = expression_faults names scope x ++ expression_faults names scope y
+expression_faults names scope (expr.Prefix' op p (more_of-Expr e end_of-Expr)) = expression_faults names scope e
+expression_faults names scope (expr.Binary' op p (more_of-Expr x end_of-Expr) q (more_of-Expr y end_of-Expr)) = expression_faults names scope x ++ expression_faults names scope y
 
 -- the faults of expressions from left to right
 abbrev pub expressions_faults : Names → Scope → List Expr → List CheckFault

@@ -3,12 +3,12 @@ use Rattle.std.specs.Prelude.{List, [], ◌∷◌, ◌++◌, Option, Some, None}
 use Rattle.thread_tree.specs.declared.place.Place.{Place}
 use Rattle.thread_tree.specs.declared.place.At.{At}
 use Rattle.thread_tree.specs.declared.place.Num.{Num}
-use Rattle.thread_tree.specs.declared.expr.Expr.{Expr}
+use Rattle.thread_tree.specs.declared.expr.Expr.{Expr, more_of-Expr, end_of-Expr}
 use Rattle.thread_tree.specs.declared.expr.Expr.TheVariants as expr
 use Rattle.thread_tree.specs.declared.expr.FieldOf.{FieldOf}
 use Rattle.thread_tree.specs.declared.expr.FieldOf.TheVariants as field
 use Rattle.thread_tree.specs.declared.action.Call.{Call}
-use Rattle.thread_tree.specs.declared.action.Call.TheVariants as call
+use Rattle.thread_tree.specs.Pieces.{Piece, named, valued, whom, itemized, applied, pieces}
 use Rattle.thread_tree.specs.declared.action.Item.{Item}
 use Rattle.thread_tree.specs.declared.action.Item.TheVariants as item
 use Rattle.thread_tree.specs.declared.action.Who.{Who}
@@ -51,8 +51,8 @@ abbrev pub of_expression : Expr → List Place
 of_expression (expr.Num value) = []
 of_expression (expr.Local at) = of_name at
 of_expression (expr.Field f) = of_field f
-of_expression (expr.Prefix' op p e) = of_expression e
-of_expression (expr.Binary' op p x q y) = of_expression x ++ of_expression y
+of_expression (expr.Prefix' op p (more_of-Expr e end_of-Expr)) = of_expression e
+of_expression (expr.Binary' op p (more_of-Expr x end_of-Expr) q (more_of-Expr y end_of-Expr)) = of_expression x ++ of_expression y
 
 -- the places in an item of a print, of which the first is that of its first byte
 abbrev pub of_item : Item → List Place
@@ -64,21 +64,17 @@ abbrev pub of_who : Who → List Place
 of_who who.Own = []
 of_who (who.Of e) = of_expression e
 
--- the places in a call
+-- the places in a piece of a call
+abbrev pub of_piece : Piece → List Place
+of_piece (named needed name) = of_name name
+of_piece (valued e) = of_expression e
+of_piece (whom w) = of_who w
+of_piece (itemized items) = in_each of_item items
+of_piece (applied template arguments) = template.place ∷ in_each of_expression arguments
+
+-- the places in a call behind its word
 abbrev pub of_call : Call → List Place
-of_call (call.Print items) = in_each of_item items
-of_call (call.Spawn thread es) = thread.place ∷ in_each of_expression es
-of_call (call.Delete whom) = of_who whom
-of_call (call.Delay ticks) = of_expression ticks
-of_call (call.Setprio whom priority) = of_who whom ++ of_expression priority
-of_call (call.Getprio whom) = of_who whom
-of_call (call.Send queue value limit) = queue.place ∷ (of_expression value ++ of_expression limit)
-of_call (call.Receive queue limit) = queue.place ∷ of_expression limit
-of_call (call.Take semaphore limit) = semaphore.place ∷ of_expression limit
-of_call (call.Give semaphore) = of_name semaphore
-of_call call.Now = []
-of_call call.Yield = []
-of_call (call.Waiting queue) = of_name queue
+of_call c = in_each of_piece (pieces c)
 
 -- the places in a statement of a transaction, by its layer
 abbrev pub in_tstatement : {S B : Type 0} → (B → List Place) → TStmt-F S B → List Place

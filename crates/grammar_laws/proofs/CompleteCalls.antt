@@ -1,8 +1,11 @@
 -- The table takes what spells a kernel call, and the lists in it.
-use Rattle.std.proofs.Common.{◌≡◌, Bool, false, List, [], ◌∷◌, Some, None, refl}
+use Rattle.std.proofs.Common.{◌≡◌, Bool, true, false, List, [], ◌∷◌, ◌++◌, map, Some, refl, append_assoc}
 use Rattle.thread_tree.specs.declared.action.Call.{Call}
 use Rattle.thread_tree.specs.declared.action.Item.{Item}
 use Rattle.thread_tree.specs.declared.action.Who.{Who}
+use Rattle.thread_tree.proofs.Callers.{has_shape}
+use Rattle.thread_tree.specs.Pieces.{Piece, named, valued, whom, itemized, applied, slot_of, word_of, pieces, fit}
+use Rattle.thread_tree.specs.declared.slot.Slot.{Slot}
 use Rattle.thread_tree.specs.declared.expr.Expr.{Expr}
 use Rattle.thread_tree.specs.declared.place.At.{At}
 use Rattle.thread_tree.specs.declared.place.Place.{Place}
@@ -10,177 +13,125 @@ use Rattle.thread_tree.specs.declared.token.Mark.TheVariants as mark
 use Rattle.thread_tree.specs.declared.token.Placed.{Placed}
 use Rattle.thread_tree.specs.declared.token.Token.{Token}
 use Rattle.thread_tree.specs.declared.token.Token.TheVariants as token
-use Rattle.thread_tree.specs.Grammar.{turn, advance, Spells, is_mark, is_word, is_name, is_number, is_text, is_prefix, mark_number, word_number, operand, call_end, statement, stated_by}
+use Rattle.thread_tree.specs.declared.token.Word.TheVariants as word
+use Rattle.thread_tree.specs.Grammar.{turn, Spells, is_mark, is_word, is_name, is_number, is_text, is_prefix, mark_number, word_number, operand, call_end, row, statement, stated_by}
 use Rattle.grammar_laws.specs.Open.{bare}
-use Rattle.thread_tree.specs.Parts.{Part, TheMark, AName, MoreNames, ABlock, Statements, To, AnItem, MoreItems, Arguments, MoreExpressions, AWho, ATBlock, Expression, Inner}
-use Rattle.thread_tree.specs.Spelling.{SpellsNames, SpellsExpr, Separated, one, more}
-use Rattle.thread_tree.specs.SpellingOfCalls.{SpellsItem, text, value, SpellsWho, own, of, SpellsArguments, no_arguments, arguments, SpellsResults, no_results, results, SpellsCall, print, spawn, delete, delay, setprio, getprio, send, receive, take, give, now, yield, waiting}
-use Rattle.grammar_laws.proofs.Table.{never, takes_mark, takes_name, placed, go, lift}
-use Rattle.grammar_laws.proofs.CompleteExpressions.{EndsHere, takes_inner, takes_expression}
+use Rattle.thread_tree.specs.Parts.{Part, TheMark, AName, MoreNames, Statements, To, AnItem, MoreItems, Arguments, MoreExpressions, AWho, Inner}
+use Rattle.thread_tree.specs.Spelling.{TakesMark, SpellsNames, SpellsExpr, Separated, one, more}
+use Rattle.thread_tree.specs.SpellingOfCalls.{SpellsItem, text, value, SpellsWho, own, of, SpellsArguments, no_arguments, arguments, SpellsResults, no_results, results, SpellsPiece, name_piece, value_piece, whom_piece, items_piece, applied_piece, SpellsPieces, no_pieces, some_pieces, SpellsCall}
+use Rattle.grammar_laws.specs.Shortest.{closes, follows}
+use Rattle.grammar_laws.proofs.Table.{Wider, beyond, lift, takes_mark, takes_name, placed, go}
+use Rattle.grammar_laws.proofs.Ends.{no_comma}
+use Rattle.grammar_laws.proofs.Tags.{is_the_mark, is_the_word, is_the_text}
+use Rattle.grammar_laws.proofs.CompleteExpressions.{as_inner, takes_inner, takes_expression}
 
--- parts that end an expression
-pub semicolon_ends : EndsHere (TheMark mark.Semicolon)
+-- where a list of names may end, and one of expressions
+names_step : (next : Part) → closes next ≡ true → Wider next (MoreNames next)
+unfolding turn
+names_step next c t first e = beyond (is_mark mark.Comma t) _ _ (λ h. rw (is_the_mark mark.Comma t h) (no_comma next c)) e
+
+pub names_end : {next : Part} {parts : List Part} {ts : List Token} → closes next ≡ true → Spells (next ∷ parts) ts → Spells (MoreNames next ∷ parts) ts
+names_end {next = next} c s = lift (names_step next c) s
+
+expressions_step : (fields : Bool) (next : Part) → closes next ≡ true → Wider next (MoreExpressions fields next)
+unfolding turn
+expressions_step fields next c t first e = beyond (is_mark mark.Comma t) _ _ (λ h. rw (is_the_mark mark.Comma t h) (no_comma next c)) e
+
+pub expressions_end : {fields : Bool} {next : Part} {parts : List Part} {ts : List Token} → closes next ≡ true → Spells (next ∷ parts) ts → Spells (MoreExpressions fields next ∷ parts) ts
+expressions_end {fields = fields} {next = next} c s = lift (expressions_step fields next c) s
+
+-- lists with commas between their things
+pub takes_names : {before after : List Placed} {names : List At} → SpellsNames before after names → (next : Part) (parts : List Part) → closes next ≡ true → Spells (next ∷ parts) (bare after) → Spells (AName ∷ MoreNames next ∷ parts) (bare before)
 unfolding turn is_mark mark_number
-semicolon_ends = record { no_dot = refl; no_operator = λ op. refl }
+takes_names (one n) next parts c s = takes_name n (names_end c s)
+takes_names (more n comma rest) next parts c s = takes_name n (go refl comma (takes_names rest next parts c s))
 
-pub comma_ends : EndsHere (TheMark mark.Comma)
+pub takes_expressions : {fields : Bool} {before after : List Placed} {es : List Expr} → Separated (SpellsExpr fields) before after es → (next : Part) (parts : List Part) → closes next ≡ true → Spells (next ∷ parts) (bare after) → Spells (Inner fields (MoreExpressions fields next) ∷ parts) (bare before)
 unfolding turn is_mark mark_number
-comma_ends = record { no_dot = refl; no_operator = λ op. refl }
-
-pub block_ends : EndsHere ABlock
-unfolding turn is_mark mark_number
-block_ends = record { no_dot = refl; no_operator = λ op. refl }
-
-pub tblock_ends : EndsHere ATBlock
-unfolding turn is_mark mark_number
-tblock_ends = record { no_dot = refl; no_operator = λ op. refl }
-
-pub to_ends : EndsHere To
-unfolding turn call_end is_mark mark_number
-to_ends = record { no_dot = refl; no_operator = λ op. refl }
-
-items_end : EndsHere MoreItems
-unfolding turn call_end is_mark mark_number
-items_end = record { no_dot = refl; no_operator = λ op. refl }
-
-pub more_end : (fields : Bool) (next : Part) → EndsHere next → EndsHere (MoreExpressions fields next)
-unfolding turn is_mark mark_number
-more_end fields next ends = record { no_dot = ends.no_dot; no_operator = ends.no_operator }
-
--- where a list of names may end
-pub names_step : (next : Part) (parts : List Part) → turn next (token.Mark mark.Comma) ≡ None → (t : Token) (after : List Part) → advance (next ∷ parts) t ≡ Some after → advance (MoreNames next ∷ parts) t ≡ Some after
-unfolding advance turn is_mark mark_number
-names_step next parts no_comma (token.Mark mark.Comma) after e = never (rw (no_comma, advance) at e)
-names_step next parts no_comma (token.Mark _) after e = e
-names_step next parts no_comma (token.Operator op) after e = e
-names_step next parts no_comma (token.Name _) after e = e
-names_step next parts no_comma (token.Number _) after e = e
-names_step next parts no_comma (token.Text _) after e = e
-names_step next parts no_comma (token.Word _) after e = e
-
-names_turn : (next : Part) → turn (MoreNames next) (token.Mark mark.Comma) ≡ Some (AName ∷ MoreNames next ∷ [])
-unfolding turn is_mark mark_number
-names_turn next = refl
-
-pub takes_names : {before after : List Placed} {names : List At} → SpellsNames before after names → (next : Part) (parts : List Part) → turn next (token.Mark mark.Comma) ≡ None → Spells (next ∷ parts) (bare after) → Spells (AName ∷ MoreNames next ∷ parts) (bare before)
-takes_names (one {before} {after} {x} n) next parts no_comma s = takes_name n (lift next (MoreNames next) parts (bare after) (names_step next parts no_comma) s)
-takes_names (more n c rest) next parts no_comma s = takes_name n (go (names_turn next) c (takes_names rest next parts no_comma s))
-
--- where a list of expressions may end
-pub expressions_step : (fields : Bool) (next : Part) (parts : List Part) → turn next (token.Mark mark.Comma) ≡ None → (t : Token) (after : List Part) → advance (next ∷ parts) t ≡ Some after → advance (MoreExpressions fields next ∷ parts) t ≡ Some after
-unfolding advance turn is_mark mark_number
-expressions_step fields next parts no_comma (token.Mark mark.Comma) after e = never (rw (no_comma, advance) at e)
-expressions_step fields next parts no_comma (token.Mark _) after e = e
-expressions_step fields next parts no_comma (token.Operator op) after e = e
-expressions_step fields next parts no_comma (token.Name _) after e = e
-expressions_step fields next parts no_comma (token.Number _) after e = e
-expressions_step fields next parts no_comma (token.Text _) after e = e
-expressions_step fields next parts no_comma (token.Word _) after e = e
-
-expressions_turn : (fields : Bool) (next : Part) → turn (MoreExpressions fields next) (token.Mark mark.Comma) ≡ Some (Expression fields (MoreExpressions fields next) ∷ [])
-unfolding turn is_mark mark_number
-expressions_turn fields next = refl
-
-as_expression : (fields : Bool) (next : Part) (parts : List Part) (t : Token) (after : List Part) → advance (Inner fields next ∷ parts) t ≡ Some after → advance (Expression fields next ∷ parts) t ≡ Some after
-unfolding advance turn
-as_expression fields next parts t after e = e
-
-pub takes_expressions : {fields : Bool} {before after : List Placed} {es : List Expr} → Separated (SpellsExpr fields) before after es → (next : Part) (parts : List Part) → turn next (token.Mark mark.Comma) ≡ None → EndsHere next → Spells (next ∷ parts) (bare after) → Spells (Inner fields (MoreExpressions fields next) ∷ parts) (bare before)
-takes_expressions {fields = fields} (one {before} {after} {x} e) next parts no_comma ends s = takes_inner e (MoreExpressions fields next) parts (more_end fields next ends) (lift next (MoreExpressions fields next) parts (bare after) (expressions_step fields next parts no_comma) s)
-takes_expressions {fields = fields} (more {before} {a} {b} {after} {x} {xs} e c rest) next parts no_comma ends s = takes_inner e (MoreExpressions fields next) parts (more_end fields next ends) (go (expressions_turn fields next) c (lift (Inner fields (MoreExpressions fields next)) (Expression fields (MoreExpressions fields next)) parts (bare b) (as_expression fields (MoreExpressions fields next) parts) (takes_expressions rest next parts no_comma ends s)))
+takes_expressions {fields = fields} (one e) next parts c s = takes_inner e (MoreExpressions fields next) parts c (expressions_end c s)
+takes_expressions {fields = fields} (more e comma rest) next parts c s = takes_inner e (MoreExpressions fields next) parts c (go refl comma (lift (as_inner fields (MoreExpressions fields next)) (takes_expressions rest next parts c s)))
 
 -- arguments
-pub no_comma_in : turn (TheMark mark.CloseParenthesis) (token.Mark mark.Comma) ≡ None
-unfolding turn is_mark mark_number
-no_comma_in = refl
-
-close_ends : EndsHere (TheMark mark.CloseParenthesis)
-unfolding turn is_mark mark_number
-close_ends = record { no_dot = refl; no_operator = λ op. refl }
-
-arguments_step : (parts : List Part) (t : Token) (after : List Part) → advance (Inner false (MoreExpressions false (TheMark mark.CloseParenthesis)) ∷ parts) t ≡ Some after → advance (Arguments ∷ parts) t ≡ Some after
-unfolding advance turn operand is_mark mark_number is_number is_name is_prefix
-arguments_step parts (token.Mark mark.CloseParenthesis) after e = never e
-arguments_step parts (token.Mark _) after e = e
-arguments_step parts (token.Operator op) after e = e
-arguments_step parts (token.Name _) after e = e
-arguments_step parts (token.Number _) after e = e
-arguments_step parts (token.Text _) after e = e
-arguments_step parts (token.Word _) after e = e
+arguments_step : Wider (Inner false (MoreExpressions false (TheMark mark.CloseParenthesis))) Arguments
+unfolding turn operand is_mark mark_number is_number is_name is_prefix
+arguments_step t first e = beyond (is_mark mark.CloseParenthesis t) _ _ (λ h. rw (is_the_mark mark.CloseParenthesis t h) refl) e
 
 pub takes_arguments : {before after : List Placed} {es : List Expr} → SpellsArguments before after es → (parts : List Part) → Spells parts (bare after) → Spells (Arguments ∷ parts) (bare before)
 unfolding turn is_mark mark_number
 takes_arguments (no_arguments c) parts s = go refl c s
-takes_arguments (arguments {before} {a} {after} {es} e c) parts s = lift (Inner false (MoreExpressions false (TheMark mark.CloseParenthesis))) Arguments parts (bare before) (arguments_step parts) (takes_expressions e (TheMark mark.CloseParenthesis) parts no_comma_in close_ends (takes_mark c s))
+takes_arguments (arguments e c) parts s = lift arguments_step (takes_expressions e (TheMark mark.CloseParenthesis) parts refl (takes_mark c s))
 
 -- the end of a call
-no_comma_there : turn (TheMark mark.Semicolon) (token.Mark mark.Comma) ≡ None
-unfolding turn is_mark mark_number
-no_comma_there = refl
-
 pub takes_results : {before after : List Placed} {names : List At} → SpellsResults before after names → (parts : List Part) → Spells parts (bare after) → Spells (To ∷ parts) (bare before)
 unfolding turn call_end is_mark mark_number
 takes_results (no_results m) parts s = go refl m s
-takes_results (results arrow names m) parts s = go refl arrow (takes_names names (TheMark mark.Semicolon) parts no_comma_there (takes_mark m s))
+takes_results (results arrow names m) parts s = go refl arrow (takes_names names (TheMark mark.Semicolon) parts refl (takes_mark m s))
 
 -- items of a `print`
-item_step : (parts : List Part) (t : Token) (after : List Part) → advance (Inner false MoreItems ∷ parts) t ≡ Some after → advance (AnItem ∷ parts) t ≡ Some after
-unfolding advance turn operand is_mark mark_number is_number is_name is_prefix is_text
-item_step parts (token.Text _) after e = never e
-item_step parts (token.Mark _) after e = e
-item_step parts (token.Operator op) after e = e
-item_step parts (token.Name _) after e = e
-item_step parts (token.Number _) after e = e
-item_step parts (token.Word _) after e = e
+item_step : Wider (Inner false MoreItems) AnItem
+unfolding turn operand is_mark is_number is_name is_prefix
+item_step t first e = beyond (is_text t) _ _ (λ h. rw ((is_the_text t h).1) refl) e
 
-items_step : (parts : List Part) (t : Token) (after : List Part) → advance (To ∷ parts) t ≡ Some after → advance (MoreItems ∷ parts) t ≡ Some after
-unfolding advance turn call_end is_mark mark_number
-items_step parts (token.Mark mark.Comma) after e = never e
-items_step parts (token.Mark _) after e = e
-items_step parts (token.Operator op) after e = e
-items_step parts (token.Name _) after e = e
-items_step parts (token.Number _) after e = e
-items_step parts (token.Text _) after e = e
-items_step parts (token.Word _) after e = e
+items_step : Wider To MoreItems
+unfolding turn call_end is_mark mark_number
+items_step t first e = beyond (is_mark mark.Comma t) _ _ (λ h. rw (is_the_mark mark.Comma t h) refl) e
 
 takes_item : {before after : List Placed} {x : Item} → SpellsItem before after x → (parts : List Part) → Spells (MoreItems ∷ parts) (bare after) → Spells (AnItem ∷ parts) (bare before)
 unfolding turn is_text
 takes_item (text t) parts s = go refl (placed t) s
-takes_item (value {before} {after} {place} {e} b v) parts s = lift (Inner false MoreItems) AnItem parts (bare before) (item_step parts) (takes_inner v MoreItems parts items_end s)
+takes_item (value b v) parts s = lift item_step (takes_inner v MoreItems parts refl s)
 
 takes_items : {before after : List Placed} {items : List Item} → Separated SpellsItem before after items → (parts : List Part) → Spells (To ∷ parts) (bare after) → Spells (AnItem ∷ parts) (bare before)
 unfolding turn is_mark mark_number
-takes_items (one {before} {after} {x} i) parts s = takes_item i parts (lift To MoreItems parts (bare after) (items_step parts) s)
+takes_items (one i) parts s = takes_item i parts (lift items_step s)
 takes_items (more i c rest) parts s = takes_item i parts (go refl c (takes_items rest parts s))
 
 -- the thread that a call speaks of
-who_step : (next : Part) (parts : List Part) (t : Token) (after : List Part) → advance (Inner false next ∷ parts) t ≡ Some after → advance (AWho next ∷ parts) t ≡ Some after
-unfolding advance turn operand is_mark mark_number is_number is_name is_prefix is_word
-who_step next parts (token.Word w) after e = never e
-who_step next parts (token.Mark _) after e = e
-who_step next parts (token.Operator op) after e = e
-who_step next parts (token.Name _) after e = e
-who_step next parts (token.Number _) after e = e
-who_step next parts (token.Text _) after e = e
+who_step : (next : Part) → Wider (Inner false next) (AWho next)
+unfolding turn operand is_mark is_number is_name is_prefix
+who_step next t first e = beyond (is_word word.Own t) _ _ (λ h. rw (is_the_word word.Own t h) refl) e
 
-takes_who : {before after : List Placed} {w : Who} → SpellsWho before after w → (next : Part) (parts : List Part) → EndsHere next → Spells (next ∷ parts) (bare after) → Spells (AWho next ∷ parts) (bare before)
+takes_who : {before after : List Placed} {w : Who} → SpellsWho before after w → (next : Part) (parts : List Part) → follows next ≡ true → Spells (next ∷ parts) (bare after) → Spells (AWho next ∷ parts) (bare before)
 unfolding turn is_word word_number
-takes_who (own t) next parts ends s = go refl t s
-takes_who (of {before} {after} {e} v) next parts ends s = lift (Inner false next) (AWho next) parts (bare before) (who_step next parts) (takes_inner v next parts ends s)
+takes_who (own t) next parts f s = go refl t s
+takes_who (of v) next parts f s = lift (who_step next) (takes_inner v next parts f s)
+
+-- a piece of a call with nothing behind it, and with a comma
+takes_last : {before after : List Placed} {p : Piece} → SpellsPiece before after p → (parts : List Part) → Spells (To ∷ parts) (bare after) → Spells (row (slot_of p ∷ []) ++ parts) (bare before)
+takes_last (name_piece n) parts s = takes_name n s
+takes_last (value_piece e) parts s = takes_expression e To parts refl s
+takes_last (whom_piece w) parts s = takes_who w To parts refl s
+takes_last (items_piece items) parts s = takes_items items parts s
+takes_last (applied_piece n o es) parts s = takes_name n (takes_mark o (takes_arguments es (To ∷ parts) s))
+
+takes_next : {before a b : List Placed} {p : Piece} → SpellsPiece before a p → TakesMark mark.Comma a b → (slot : Slot) (slots : List Slot) → fit (slot_of p ∷ slot ∷ slots) ≡ true → (parts : List Part) → Spells (row (slot ∷ slots) ++ parts) (bare b) → Spells (row (slot_of p ∷ slot ∷ slots) ++ parts) (bare before)
+takes_next (name_piece n) c slot slots h parts s = takes_name n (takes_mark c s)
+takes_next (value_piece e) c slot slots h parts s = takes_expression e (TheMark mark.Comma) _ refl (takes_mark c s)
+takes_next (whom_piece w) c slot slots h parts s = takes_who w (TheMark mark.Comma) _ refl (takes_mark c s)
+takes_next (items_piece items) c slot slots h parts s = absurd (cc)
+takes_next (applied_piece n o es) c slot slots h parts s = absurd (cc)
+
+-- what stands behind a piece fits as well
+fit_rest : (p : Piece) (slot : Slot) (slots : List Slot) → fit (slot_of p ∷ slot ∷ slots) ≡ true → fit (slot ∷ slots) ≡ true
+fit_rest (named needed name) slot slots h = h
+fit_rest (valued e) slot slots h = h
+fit_rest (whom w) slot slots h = h
+fit_rest (itemized items) slot slots h = absurd (cc)
+fit_rest (applied template es) slot slots h = absurd (cc)
+
+takes_separated : {before after : List Placed} {ps : List Piece} → Separated SpellsPiece before after ps → fit (map slot_of ps) ≡ true → (parts : List Part) → Spells (To ∷ parts) (bare after) → Spells (row (map slot_of ps) ++ parts) (bare before)
+takes_separated (one x) h parts s = takes_last x parts s
+takes_separated (more {xs = []} x c rest) h parts s = absurd (elim rest [ ])
+takes_separated (more {x = p} {xs = q ∷ qs} x c rest) h parts s = takes_next x c (slot_of q) (map slot_of qs) h parts (takes_separated rest (fit_rest p (slot_of q) (map slot_of qs) h) parts s)
+
+takes_pieces : {before after : List Placed} {ps : List Piece} → SpellsPieces before after ps → fit (map slot_of ps) ≡ true → (parts : List Part) → Spells (To ∷ parts) (bare after) → Spells (row (map slot_of ps) ++ parts) (bare before)
+takes_pieces no_pieces h parts s = s
+takes_pieces (some_pieces ps) h parts s = takes_separated ps h parts s
 
 -- a call in a body
-pub takes_call : {place : Place} {before after : List Placed} {c : Call} → SpellsCall place before after c → (parts : List Part) → Spells (To ∷ Statements ∷ parts) (bare after) → Spells (Statements ∷ parts) (bare before)
+call_turns : (c : Call) → turn Statements (token.Word (word_of c)) ≡ Some (row (map slot_of (pieces c)) ++ Statements ∷ [])
 unfolding turn statement stated_by
-takes_call (print t items) parts s = go refl (placed t) (takes_items items (Statements ∷ parts) s)
-takes_call (spawn t n o es) parts s = go refl (placed t) (takes_name n (takes_mark o (takes_arguments es (To ∷ Statements ∷ parts) s)))
-takes_call (delete t w) parts s = go refl (placed t) (takes_who w To (Statements ∷ parts) to_ends s)
-takes_call (delay t e) parts s = go refl (placed t) (takes_expression e To (Statements ∷ parts) to_ends s)
-takes_call (setprio t w c e) parts s = go refl (placed t) (takes_who w (TheMark mark.Comma) (Expression false To ∷ Statements ∷ parts) comma_ends (takes_mark c (takes_expression e To (Statements ∷ parts) to_ends s)))
-takes_call (getprio t w) parts s = go refl (placed t) (takes_who w To (Statements ∷ parts) to_ends s)
-takes_call (send t n c v d e) parts s = go refl (placed t) (takes_name n (takes_mark c (takes_expression v (TheMark mark.Comma) (Expression false To ∷ Statements ∷ parts) comma_ends (takes_mark d (takes_expression e To (Statements ∷ parts) to_ends s)))))
-takes_call (receive t n c e) parts s = go refl (placed t) (takes_name n (takes_mark c (takes_expression e To (Statements ∷ parts) to_ends s)))
-takes_call (take t n c e) parts s = go refl (placed t) (takes_name n (takes_mark c (takes_expression e To (Statements ∷ parts) to_ends s)))
-takes_call (give t n) parts s = go refl (placed t) (takes_name n s)
-takes_call (now t) parts s = go refl (placed t) s
-takes_call (yield t) parts s = go refl (placed t) s
-takes_call (waiting t n) parts s = go refl (placed t) (takes_name n s)
+call_turns c = rw ((has_shape c).0, stated_by) refl
+
+pub takes_call : {place : Place} {before after : List Placed} {c : Call} → SpellsCall place before after c → (parts : List Part) → Spells (To ∷ Statements ∷ parts) (bare after) → Spells (Statements ∷ parts) (bare before)
+takes_call {c = c} spelled parts s = go (call_turns c) (placed spelled.word) (rw (append_assoc (row (map slot_of (pieces c))) (Statements ∷ []) parts) (takes_pieces spelled.operands (has_shape c).1 (Statements ∷ parts) s))

@@ -1,40 +1,27 @@
 -- The table takes what spells a program.
-use Rattle.std.proofs.Common.{◌≡◌, List, [], ◌∷◌, Option, Some, None, refl}
+use Rattle.std.proofs.Common.{◌≡◌, List, [], ◌∷◌, Option, Some, refl}
 use Rattle.thread_tree.specs.declared.place.At.{At}
 use Rattle.thread_tree.specs.declared.place.Num.{Num}
 use Rattle.thread_tree.specs.declared.token.Mark.TheVariants as mark
 use Rattle.thread_tree.specs.declared.token.Placed.{Placed}
 use Rattle.thread_tree.specs.declared.token.Token.{Token}
-use Rattle.thread_tree.specs.declared.token.Token.TheVariants as token
 use Rattle.thread_tree.specs.declared.token.Word.TheVariants as word
 use Rattle.thread_tree.specs.declared.tree.Decl.{Decl}
 use Rattle.thread_tree.specs.Grammar.{turn, advance, declared, declared_by, Spells, nothing, goes_on, is_mark, is_word, is_name, is_number, mark_number, word_number}
 use Rattle.grammar_laws.specs.Open.{bare}
-use Rattle.thread_tree.specs.Parts.{Part, TheMark, TheWord, AName, ANumber, MoreNames, Channel, Parameters, Numbers, MoreNumbers, ABlock}
+use Rattle.thread_tree.specs.Parts.{Part, TheMark, TheWord, ANumber, Channel, Parameters, Numbers, MoreNumbers, ABlock}
 use Rattle.thread_tree.specs.Spelling.{TakesAny, TakesMark, SpellsNumber, Separated, one, more}
 use Rattle.thread_tree.specs.SpellingOfDeclarations.{SpellsParameters, no_parameters, parameters, SpellsNumbers, no_numbers, numbers, SpellsChannel, no_channel, channel, SpellsDecl, kind, object, queue, semaphore, function, thread, start, SpellsDecls, no_decls, decls, SpellsProgram}
-use Rattle.grammar_laws.proofs.Table.{never, takes_mark, takes_word, takes_name, takes_number, placed, go}
-use Rattle.grammar_laws.proofs.CompleteCalls.{takes_names, no_comma_in}
+use Rattle.grammar_laws.proofs.Table.{takes_mark, takes_word, takes_name, takes_number, placed, go}
+use Rattle.grammar_laws.proofs.CompleteCalls.{names_end, takes_names}
 use Rattle.grammar_laws.proofs.CompleteBlocks.{takes_block}
 
--- the first of some names, and what follows it
-named_step : (parts : List Part) (t : Token) (ts : List Token) → Spells (AName ∷ MoreNames (TheMark mark.CloseParenthesis) ∷ parts) (t ∷ ts) → Spells (Parameters ∷ parts) (t ∷ ts)
-unfolding advance turn is_mark mark_number is_name
-named_step parts (token.Name n) ts (goes_on e s) = goes_on e s
-named_step parts (token.Mark m) ts (goes_on e s) = never e
-named_step parts (token.Operator op) ts (goes_on e s) = never e
-named_step parts (token.Number _) ts (goes_on e s) = never e
-named_step parts (token.Text _) ts (goes_on e s) = never e
-named_step parts (token.Word _) ts (goes_on e s) = never e
-
-named : (parts : List Part) (ts : List Token) → Spells (AName ∷ MoreNames (TheMark mark.CloseParenthesis) ∷ parts) ts → Spells (Parameters ∷ parts) ts
-named parts [] s = elim s [ ]
-named parts (t ∷ ts) s = named_step parts t ts s
-
+-- parameters
 takes_parameters : {before after : List Placed} {names : List At} → SpellsParameters before after names → (parts : List Part) → Spells parts (bare after) → Spells (Parameters ∷ parts) (bare before)
-unfolding turn is_mark mark_number
+unfolding turn is_mark mark_number is_name
 takes_parameters (no_parameters c) parts s = go refl c s
-takes_parameters (parameters {before} names c) parts s = named parts (bare before) (takes_names names (TheMark mark.CloseParenthesis) parts no_comma_in (takes_mark c s))
+takes_parameters (parameters (one n) c) parts s = go refl (placed n) (names_end refl (takes_mark c s))
+takes_parameters (parameters (more n comma rest) c) parts s = go refl (placed n) (go refl comma (takes_names rest (TheMark mark.CloseParenthesis) parts refl (takes_mark c s)))
 
 -- numbers
 close_more : {before after : List Placed} {parts : List Part} → TakesMark mark.CloseParenthesis before after → Spells parts (bare after) → Spells (MoreNumbers ∷ parts) (bare before)
@@ -62,13 +49,9 @@ begins : {t : Token} {first : List Part} {before after : List Placed} → declar
 unfolding advance
 begins e r s = rw (r.first) (goes_on e s)
 
-no_comma_brace : turn (TheMark mark.CloseBrace) (token.Mark mark.Comma) ≡ None
-unfolding turn is_mark mark_number
-no_comma_brace = refl
-
 takes_decl : {before after : List Placed} {d : Decl} → SpellsDecl before after d → Spells [] (bare after) → Spells [] (bare before)
 unfolding declared declared_by
-takes_decl (kind w n o fields c) s = begins refl w (takes_name n (takes_mark o (takes_names fields (TheMark mark.CloseBrace) [] no_comma_brace (takes_mark c s))))
+takes_decl (kind w n o fields c) s = begins refl w (takes_name n (takes_mark o (takes_names fields (TheMark mark.CloseBrace) [] refl (takes_mark c s))))
 takes_decl (object w n c k m) s = begins refl w (takes_name n (takes_mark c (takes_name k (takes_mark m s))))
 takes_decl (queue w n o k c end) s = begins refl w (takes_name n (takes_mark o (takes_number k (takes_mark c (takes_channel end [] s)))))
 takes_decl (semaphore w n q a max b m) s = begins refl w (takes_name n (takes_mark q (takes_number a (takes_word max (takes_number b (takes_mark m s))))))

@@ -1,4 +1,17 @@
+pub mod Callers
 mod Table
+mod Tags
+mod Joined
+mod Meaning
+mod SoundExpressions
+mod SoundCalls
+mod SoundPieces
+mod SoundTransactions
+mod SoundBlocks
+mod SoundDeclarations
+mod SoundPrograms
+mod OneRefusal
+mod Ends
 mod CompleteExpressions
 mod CompleteCalls
 mod CompleteTransactions

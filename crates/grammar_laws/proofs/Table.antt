@@ -1,5 +1,5 @@
 -- The table takes a token.
-use Rattle.std.proofs.Common.{◌≡◌, ℕ, true, List, [], ◌∷◌, ◌++◌, Some, None, refl, ◌==◌, arith}
+use Rattle.std.proofs.Common.{◌≡◌, ℕ, Bool, true, false, if◌then◌else◌, List, [], ◌∷◌, ◌++◌, Option, Some, None, refl, ◌==◌, arith}
 use Rattle.std.proofs.lemmas.Bool.Decides.{nat_tests}
 use Rattle.std.proofs.lemmas.Option.{none-some}
 use Rattle.thread_tree.specs.declared.token.Mark.{Mark}
@@ -54,16 +54,25 @@ pub takes_number : {number : _} {parts : List Part} {before after : List Placed}
 unfolding turn is_number
 takes_number {number = number} {parts = parts} {before = before} {after = after} r s = takes ANumber (token.Number number.value) [] parts before after refl (placed r) s
 
--- a part that turns at each token as another does
-pub like : (part other : Part) (parts : List Part) (ts : List Token) → ((t : Token) → advance (other ∷ parts) t ≡ advance (part ∷ parts) t) → Spells (part ∷ parts) ts → Spells (other ∷ parts) ts
-like part other parts [] same s = elim s [ ]
-like part other parts (t ∷ ts) same (goes_on e s) = goes_on (rw (same t) e) s
-
 -- a token at the beginning of a part, with what follows it read off the table
 pub go : {part : Part} {t : Token} {first parts : List Part} {before after : List Placed} → turn part t ≡ Some first → TakesAny t before after → Spells (first ++ parts) (bare after) → Spells (part ∷ parts) (bare before)
 go {part = part} {t = t} {first = first} {parts = parts} {before = before} {after = after} e r s = takes part t first parts before after e r s
 
--- a part that takes at least what another takes
-pub lift : (part other : Part) (parts : List Part) (ts : List Token) → ((t : Token) (after : List Part) → advance (part ∷ parts) t ≡ Some after → advance (other ∷ parts) t ≡ Some after) → Spells (part ∷ parts) ts → Spells (other ∷ parts) ts
-lift part other parts [] same s = elim s [ ]
-lift part other parts (t ∷ ts) same (goes_on e s) = goes_on (same t _ e) s
+-- a part that takes whatever another takes, in the same way
+abbrev pub Wider : Part → Part → Type 0
+Wider part other = (t : Token) (first : List Part) → turn part t ≡ Some first → turn other t ≡ Some first
+
+-- a test before the rows of another part finds only what that part refuses
+pub beyond : {first : List Part} (b : Bool) (x y : Option (List Part)) → (b ≡ true → y ≡ None) → y ≡ Some first → (if b then x else y) ≡ Some first
+beyond true x y h e = never (rw (h refl) at e)
+beyond false x y h e = e
+
+lifted : (part other : Part) (parts after : List Part) (t : Token) → Wider part other → (found : Option (List Part)) → turn part t ≡ found → elim found [ Some first ↦ Some (first ++ parts) | None ↦ None ] ≡ Some after → advance (other ∷ parts) t ≡ Some after
+unfolding advance
+lifted part other parts after t wider (Some first) is e = rw (wider t first is, advance) e
+lifted part other parts after t wider None is e = never e
+
+pub lift : {part other : Part} {parts : List Part} {ts : List Token} → Wider part other → Spells (part ∷ parts) ts → Spells (other ∷ parts) ts
+unfolding advance
+lift {ts = []} wider s = elim s [ ]
+lift {part = part} {other = other} {parts = parts} {ts = t ∷ ts} wider (goes_on {after = after} e s) = goes_on (lifted part other parts after t wider (turn part t) refl e) s

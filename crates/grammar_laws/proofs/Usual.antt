@@ -1,11 +1,13 @@
 -- The table owes only usual parts.
 use Rattle.std.proofs.Common.{◌≡◌, Bool, true, false, List, [], ◌∷◌, ◌++◌, Option, Some, None, refl, if◌then◌else◌}
+use Rattle.std.proofs.lemmas.Option.{same_Some}
 use Rattle.thread_tree.specs.declared.token.Mark.TheVariants as mark
 use Rattle.thread_tree.specs.declared.token.Token.{Token}
 use Rattle.thread_tree.specs.declared.token.Token.TheVariants as token
 use Rattle.thread_tree.specs.declared.token.Word.{Word}
 use Rattle.thread_tree.specs.declared.token.Word.TheVariants as word
-use Rattle.thread_tree.specs.Grammar.{turn, advance, declared, declared_by, stated_by, transacted_by, statement, tstatement, is_mark, is_word, is_name, is_number, is_text, is_prefix, is_between, operand, behind_name, call_end}
+use Rattle.thread_tree.specs.Grammar.{turn, advance, declared, declared_by, stated_by, plain_by, transacted_by, statement, tstatement, is_mark, is_word, is_name, is_number, is_text, is_prefix, is_between, operand, behind_name, call_end}
+use Rattle.thread_tree.specs.Pieces.{shape}
 use Rattle.grammar_laws.specs.Open.{owed}
 use Rattle.thread_tree.specs.Parts.{Part, TheMark, TheWord, AName, ANumber, MoreNames, Channel, Parameters, Numbers, MoreNumbers, ABlock, Statements, Otherwise, AfterName, Assigned, AfterAssigned, Returned, AtomicTo, To, AnItem, MoreItems, Arguments, MoreExpressions, AWho, ATBlock, TStatements, TOtherwise, AfterTName, TAssigned, MoreField, Values, Expression, Inner, After, Dots, MoreDots}
 use Rattle.grammar_laws.specs.Shortest.{follows, usual, all_usual}
@@ -27,7 +29,7 @@ declared_usual word.Type = refl
 declared_usual _ = refl
 
 stated_usual : (w : Word) → taken_usual (stated_by w) ≡ true
-unfolding stated_by
+unfolding stated_by plain_by shape
 stated_usual word.Let = refl
 stated_usual _ = refl
 
@@ -125,12 +127,9 @@ unfolding advance
 advance_usual [] t h = first_usual t
 advance_usual (p ∷ ps) t h = let e = both (usual p) (all_usual ps) h in then_usual (turn p t) ps (turn_usual p t e.0) e.1
 
-same : (a b : List Part) → Some a ≡ Some b → a ≡ b
-same a b e = cc
-
 -- whatever is owed is usual
 pub owed_usual : (parts : List Part) (ts : List Token) (after : List Part) → all_usual parts ≡ true → owed parts ts ≡ Some after → all_usual after ≡ true
-owed_usual parts [] after h e = rw (same parts after e) at h
+owed_usual parts [] after h e = rw (same_Some parts after e) at h
 owed_usual parts (t ∷ ts) after h e =
     let l = left parts after t ts e in
     let k : all_usual l.middle ≡ true = rw (l.first) at (advance_usual parts t h) in

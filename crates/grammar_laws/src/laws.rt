@@ -17,3 +17,12 @@ pub fn stuck_means()
     ensures stuck { (front : List Placed) (t : Placed) (parts : List Part) → owed [] (bare front) ≡ Some parts → advance parts t.token ≡ None → MayBecome (front ++ t ∷ []) → ⊥ }
     ensures unpaid { (tokens : List Placed) (part : Part) (parts : List Part) → owed [] (bare tokens) ≡ Some (part ∷ parts) → HasProgram tokens → ⊥ }
 {}
+
+/// The other way round: what it means for the trees that the table takes tokens. Taken whole, they spell a
+/// program; taken so far, they may become one. So the table and the trees have one language, and the token with
+/// which tokens can't go on is one, by the trees alone.
+pub fn taken_means()
+    ensures sound { (tokens : List Placed) → Spells [] (bare tokens) → HasProgram tokens }
+    ensures opened { (front : List Placed) (parts : List Part) → owed [] (bare front) ≡ Some parts → MayBecome front }
+    ensures one { (xs ys us vs : List Placed) (x y : Placed) → xs ++ x ∷ us ≡ ys ++ y ∷ vs → MayBecome xs → (MayBecome (xs ++ x ∷ []) → ⊥) → MayBecome ys → (MayBecome (ys ++ y ∷ []) → ⊥) → x ≡ y }
+{}

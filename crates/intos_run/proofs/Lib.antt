@@ -1,4 +1,3 @@
-mod Alike
 mod AtMostLaws
 mod BootLemmas
 mod Commands
@@ -6,4 +5,5 @@ mod Numbers
 mod ReportLemmas
 mod RunLemmas
 mod TaskLemmas
+mod TextFaults
 mod TopLemmas

@@ -8,14 +8,11 @@ use Rattle.thread_text.specs.declared.fault.TextFault.TheVariants as text_fault
 use Rattle.thread_check.specs.Faults.{fault_of, IsTold}
 use Rattle.thread_check.specs.declared.fault.CheckFault.{CheckFault}
 use Rattle.thread_check.specs.declared.fault.CheckFault.TheVariants as check_fault
-use Rattle.accepted_program.proofs.Callers.{same_names, same_decls, accepted_too}
+use Rattle.accepted_program.proofs.Callers.{one_tree}
 use Rattle.outer_world.specs.Causes.{Rose}
 use Rattle.intos_run.specs.Command.{IsCommand}
-use Rattle.thread_tree.specs.Program.{Program, program_of}
-use Rattle.same_runs.specs.Bare.{bare_tree}
-use Rattle.accepted_program.specs.Same.{SameDecls}
 use Rattle.served_program.specs.Served.{is_served}
-use Rattle.intos_run.specs.Program.{IsTreeOf, IsProgram}
+use Rattle.intos_run.specs.Program.{IsProgram}
 use Rattle.intos_run.specs.Refusals.{status_of, line_of, refusal_of_text, refusal_of_check, IsTextFault, RefusesText, RefusesRun, Tells}
 use Rattle.intos_run.specs.Top.{Task, Asks, IsRefusedBy}
 use Rattle.intos_run.specs.declared.refusal.Refusal.{Refusal}
@@ -26,41 +23,31 @@ use Rattle.intos_run.proofs.Commands.{IsCommand-unique}
 pub at_some : {T : Type 0} (o : Option T) (P : T → Type 0) (value : T) → o ≡ Some value → IfSome o P → P value
 at_some {T} o P value is holds = subst (λ (x : Option T). IfSome x P) is holds
 
--- the laws of the trees of a text: without pointers they are one, and both are served or neither is
-abbrev pub OneTree : Type 0
-OneTree = (t u : Tree) → t.names ≡ u.names → SameDecls t.decls u.decls → bare_tree t ≡ bare_tree u
-
-abbrev pub ServedAlike : Type 0
-ServedAlike = (t u : Tree) → t.names ≡ u.names → SameDecls t.decls u.decls → is_served t ≡ is_served u
-
 -- a text has one program
-pub one_of_text : OneTree → (text : List ℕ) (tree : Tree) (p : Program) → IsTreeOf text tree → IsProgram text p → program_of (bare_tree tree) ≡ p
-one_of_text one_tree text tree p read asked =
-    let first = read.accepted.spelling in
-    let second = asked.read.accepted.spelling in
-    ap program_of (one_tree tree asked.tree (same_names text tree asked.tree first second) (same_decls text tree asked.tree first second)) ∙ sym asked.program
+one_program : (text : List ℕ) (t u : Tree) → IsProgram text t → IsProgram text u → t ≡ u
+one_program text t u first second = one_tree text t u first.accepted.spelling second.accepted.spelling
 
 -- the job that was read is the task that is asked for
 pub record IsTask (tree : Tree) (steps : ℕ) (cuts : List ℕ) (task : Task) : Type 0 where
-  pub program_is : program_of (bare_tree tree) ≡ task.program
+  pub tree_is : tree ≡ task.tree
   pub steps_is : steps ≡ task.steps
   pub cuts_is : cuts ≡ task.cuts
 
-pub same_task : OneTree → (words : List (List ℕ)) (contents : List ℕ → Option (List ℕ)) (tree : Tree) (steps : ℕ) (cuts : List ℕ) (task : Task)
-    → (name : List ℕ) × IsCommand words name steps cuts × IfSome (contents name) (λ text. IsTreeOf text tree) → Asks words contents task → IsTask tree steps cuts task
-same_task one_tree words contents tree steps cuts task read asks =
+pub same_task : (words : List (List ℕ)) (contents : List ℕ → Option (List ℕ)) (tree : Tree) (steps : ℕ) (cuts : List ℕ) (task : Task)
+    → (name : List ℕ) × IsCommand words name steps cuts × IfSome (contents name) (λ text. IsProgram text tree) → Asks words contents task → IsTask tree steps cuts task
+same_task words contents tree steps cuts task read asks =
     let unique = IsCommand-unique words read.0 task.name steps task.steps cuts task.cuts read.1 asks.command in
     let told : contents read.0 ≡ Some task.text = ap contents unique.0 ∙ asks.told in
     record {
-      program_is = one_of_text one_tree task.text tree task.program (at_some (contents read.0) (λ text. IsTreeOf text tree) task.text told read.2) asks.accepted;
+      tree_is = one_program task.text tree task.tree (at_some (contents read.0) (λ text. IsProgram text tree) task.text told read.2) asks.accepted;
       steps_is = unique.1;
       cuts_is = unique.2;
     }
 
 -- what holds of the job holds of the task
-pub for_task : (P : Program → ℕ → List ℕ → Type 0) (tree : Tree) (steps : ℕ) (cuts : List ℕ) (task : Task) → IsTask tree steps cuts task → P (program_of (bare_tree tree)) steps cuts → P task.program task.steps task.cuts
+pub for_task : (P : Tree → ℕ → List ℕ → Type 0) (tree : Tree) (steps : ℕ) (cuts : List ℕ) (task : Task) → IsTask tree steps cuts task → P tree steps cuts → P task.tree task.steps task.cuts
 for_task P tree steps cuts task is holds =
-    subst (λ (c : List ℕ). P task.program task.steps c) is.cuts_is (subst (λ (n : ℕ). P task.program n cuts) is.steps_is (subst (λ (p : Program). P p steps cuts) is.program_is holds))
+    subst (λ (c : List ℕ). P task.tree task.steps c) is.cuts_is (subst (λ (n : ℕ). P task.tree n cuts) is.steps_is (subst (λ (t : Tree). P t steps cuts) is.tree_is holds))
 
 module _ (words : List (List ℕ)) (contents : List ℕ → Option (List ℕ)) (taken taken_now faults faults_now sink_faults sink_faults_now : ℕ) (old new : Option (List ℕ)) where
   -- a text that is told, of the program that is refused
@@ -88,12 +75,12 @@ fine_found : (v : Verdict) (t : TextFault) → v ≡ Fine → v ≡ found t → 
 fine_found v t fine faulty = let e : Fine ≡ found t = sym fine ∙ faulty in cc
 
 -- a text that has a fault has no tree that is accepted
-not_faulty : (text : List ℕ) (p : Program) (t : TextFault) (refusal : Refusal) → IsProgram text p → IsTextFault text t → refusal_of_text t ≡ refusal → status_of refusal ≡ 7
-not_faulty text p (text_fault.BadToken place) refusal program fault is = absurd (fine_found _ _ program.read.accepted.spelling.fine fault)
-not_faulty text p (text_fault.Expected place) refusal program fault is = absurd (fine_found _ _ program.read.accepted.spelling.fine fault)
-not_faulty text p (text_fault.NumberTooLarge place) refusal program fault is = absurd (fine_found _ _ program.read.accepted.spelling.fine fault)
-not_faulty text p (text_fault.TooLong place) refusal program fault is = absurd (fine_found _ _ program.read.accepted.spelling.fine fault)
-not_faulty text p text_fault.NoMemory refusal program fault is = ap status_of (sym is)
+not_faulty : (text : List ℕ) (tree : Tree) (t : TextFault) (refusal : Refusal) → IsProgram text tree → IsTextFault text t → refusal_of_text t ≡ refusal → status_of refusal ≡ 7
+not_faulty text tree (text_fault.BadToken place) refusal program fault is = absurd (fine_found _ _ program.accepted.spelling.fine fault.0)
+not_faulty text tree (text_fault.Expected place) refusal program fault is = absurd (fine_found _ _ program.accepted.spelling.fine fault.0)
+not_faulty text tree (text_fault.NumberTooLarge place) refusal program fault is = absurd (fine_found _ _ program.accepted.spelling.fine fault.0)
+not_faulty text tree (text_fault.TooLong place) refusal program fault is = absurd (fine_found _ _ program.accepted.spelling.fine fault.0)
+not_faulty text tree text_fault.NoMemory refusal program fault is = ap status_of (sym is)
 
 None-Some : {T : Type 0} (a : T) → None ≡ Some a → ⊥
 None-Some a same = cc
@@ -109,34 +96,34 @@ not_broken tree (check_fault.TooMany place k n) refusal accepted fault is = absu
 not_broken tree check_fault.NoMemory refusal accepted fault is = ap status_of (sym is)
 
 -- a program that is accepted and served isn't refused
-not_refused : ServedAlike → (text : List ℕ) (p : Program) (refusal : Refusal) → IsProgram text p → RefusesText text refusal → status_of refusal ≡ 7
-not_refused served_alike text p Usage program why = absurd why
-not_refused served_alike text p ProgramUnread program why = absurd why
-not_refused served_alike text p ProgramTooLong program why = absurd (omega (arith, why, program.read.short))
-not_refused served_alike text p (Faulty place f) program why = elim why.1 [
-  | inl t ↦ not_faulty text p t.0 (Faulty place f) program t.1 t.2
-  | inr t ↦ not_broken t.0 t.1 (Faulty place f) (accepted_too text program.tree t.0 program.read.accepted t.2).checked t.3 t.4
+not_refused : (text : List ℕ) (tree : Tree) (refusal : Refusal) → IsProgram text tree → RefusesText text refusal → status_of refusal ≡ 7
+not_refused text tree Usage program why = absurd why
+not_refused text tree ProgramUnread program why = absurd why
+not_refused text tree ProgramTooLong program why = absurd (omega (arith, why, program.short))
+not_refused text tree (Faulty place f) program why = elim why.1 [
+  | inl t ↦ not_faulty text tree t.0 (Faulty place f) program t.1 t.2
+  | inr t ↦ not_broken t.0 t.1 (Faulty place f) (subst (λ (u : Tree). fault_of u ≡ None) (one_tree text tree t.0 program.accepted.spelling t.2) program.accepted.checked) t.3 t.4
 ]
-not_refused served_alike text p ProgramNotYet program why =
-    absurd (let both : false ≡ true = sym why.1.2 ∙ served_alike why.1.0 program.tree (same_names text why.1.0 program.tree why.1.1.spelling program.read.accepted.spelling) (same_decls text why.1.0 program.tree why.1.1.spelling program.read.accepted.spelling) ∙ program.read.serves in cc)
-not_refused served_alike text p NoMemory program why = refl
+not_refused text tree ProgramNotYet program why =
+    absurd (let both : false ≡ true = sym why.1.2 ∙ ap is_served (one_tree text why.1.0 tree why.1.1.spelling program.accepted.spelling) ∙ program.serves in cc)
+not_refused text tree NoMemory program why = refl
 
-module _ (served_alike : ServedAlike) (words : List (List ℕ)) (contents : List ℕ → Option (List ℕ)) (task : Task) (asks : Asks words contents task) where
+module _ (words : List (List ℕ)) (contents : List ℕ → Option (List ℕ)) (task : Task) (asks : Asks words contents task) where
   -- the text that is asked for isn't refused
   asked : (refusal : Refusal) → (n : List ℕ) × (s : ℕ) × (c : List ℕ) × IsCommand words n s c × IfSome (contents n) (λ t. RefusesText t refusal) → status_of refusal ≡ 7
   asked refusal why =
       let same = IsCommand-unique words why.0 task.name why.1 task.steps why.2 task.cuts why.3 asks.command in
-      not_refused served_alike task.text task.program refusal asks.accepted (at_some (contents why.0) (λ t. RefusesText t refusal) task.text (ap contents same.0 ∙ asks.told) why.4)
+      not_refused task.text task.tree refusal asks.accepted (at_some (contents why.0) (λ t. RefusesText t refusal) task.text (ap contents same.0 ∙ asks.told) why.4)
 
 -- a run that was asked for and that no fault of the files met isn't refused but for memory
-pub refused_for_memory : ServedAlike → (words : List (List ℕ)) (contents : List ℕ → Option (List ℕ)) (taken taken_now faults faults_now : ℕ) (refusal : Refusal) → RefusesRun words contents taken taken_now faults faults_now refusal → (task : Task) → Asks words contents task
+pub refused_for_memory : (words : List (List ℕ)) (contents : List ℕ → Option (List ℕ)) (taken taken_now faults faults_now : ℕ) (refusal : Refusal) → RefusesRun words contents taken taken_now faults faults_now refusal → (task : Task) → Asks words contents task
     → (Rose faults faults_now → ⊥) → status_of refusal ≡ 7
-refused_for_memory served_alike words contents taken taken_now faults faults_now Usage why task asks calm = absurd (why.1 task.name task.steps task.cuts asks.command)
-refused_for_memory served_alike words contents taken taken_now faults faults_now ProgramUnread why task asks calm = absurd (calm why.4)
-refused_for_memory served_alike words contents taken taken_now faults faults_now NoMemory why task asks calm = refl
-refused_for_memory served_alike words contents taken taken_now faults faults_now ProgramTooLong why task asks calm =
-    asked served_alike words contents task asks ProgramTooLong (why.0, why.1, why.2, why.3, why.4.2)
-refused_for_memory served_alike words contents taken taken_now faults faults_now (Faulty place f) why task asks calm =
-    asked served_alike words contents task asks (Faulty place f) (why.0, why.1, why.2, why.3, why.4.1)
-refused_for_memory served_alike words contents taken taken_now faults faults_now ProgramNotYet why task asks calm =
-    asked served_alike words contents task asks ProgramNotYet (why.0, why.1, why.2, why.3, why.4.1)
+refused_for_memory words contents taken taken_now faults faults_now Usage why task asks calm = absurd (why.1 task.name task.steps task.cuts asks.command)
+refused_for_memory words contents taken taken_now faults faults_now ProgramUnread why task asks calm = absurd (calm why.4)
+refused_for_memory words contents taken taken_now faults faults_now NoMemory why task asks calm = refl
+refused_for_memory words contents taken taken_now faults faults_now ProgramTooLong why task asks calm =
+    asked words contents task asks ProgramTooLong (why.0, why.1, why.2, why.3, why.4.2)
+refused_for_memory words contents taken taken_now faults faults_now (Faulty place f) why task asks calm =
+    asked words contents task asks (Faulty place f) (why.0, why.1, why.2, why.3, why.4.1)
+refused_for_memory words contents taken taken_now faults faults_now ProgramNotYet why task asks calm =
+    asked words contents task asks ProgramNotYet (why.0, why.1, why.2, why.3, why.4.1)

@@ -8,6 +8,7 @@ use Rattle.thread_tree.specs.declared.tree.Tree.{Tree}
 use Rattle.thread_tokens.specs.Scan.{scan_of}
 use Rattle.thread_text.specs.declared.fault.TextFault.{TextFault}
 use Rattle.thread_text.specs.declared.fault.TextFault.TheVariants as text_fault
+use Rattle.thread_text.specs.Refusals.{Explains}
 use Rattle.thread_text.specs.Verdict.{Answers, verdict}
 use Rattle.thread_check.specs.declared.fault.CheckFault.{CheckFault}
 use Rattle.thread_check.specs.declared.fault.CheckFault.TheVariants as check_fault
@@ -93,9 +94,11 @@ refusal_of_check (check_fault.OutOfRange place number) = Faulty place (fault.Out
 refusal_of_check (check_fault.TooMany place k count) = Faulty place (fault.TooMany k count)
 refusal_of_check check_fault.NoMemory = NoMemory
 
--- the fault of a text that spells no tree within the bounds, or want of memory
+-- the fault of a text that spells no tree within the bounds, with what it says of the text; or want of memory
 abbrev pub IsTextFault : List ℕ → TextFault → Type 0
-IsTextFault text t = Answers {X = Tree} (Err t) (verdict (scan_of text).tokens (scan_of text).ending)
+IsTextFault text t =
+    Answers {X = Tree} (Err t) (verdict (scan_of text).tokens (scan_of text).ending)
+    × Explains (scan_of text).tokens (scan_of text).ending t
 
 -- a text that has no tree, or whose tree breaks a rule, with the place and the fault that are named
 abbrev pub IsFaulty : List ℕ → Place → Fault → Type 0

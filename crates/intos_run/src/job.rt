@@ -3,7 +3,7 @@ ghost use Rattle.std.specs.Prelude.{◌≡◌, ◌≤◌, ◌<◌, IsTrue, ℕ, 
 ghost use Rattle.thread_check.specs.Faults.{fault_of};
 ghost use Rattle.served_program.specs.Served.{is_served};
 ghost use Rattle.intos_run.specs.Command.{IsCommand};
-ghost use Rattle.intos_run.specs.Program.{IsTreeOf};
+ghost use Rattle.intos_run.specs.Program.{IsProgram};
 ghost use Rattle.intos_run.specs.Refusals.{RefusesText, RefusesProgram, RefusesRun};
 
 use crate::command::{CommandFault, read_command};
@@ -31,7 +31,7 @@ pub struct Job {
 /// The program of a text, where it is accepted and served.
 fn read_text(alloc: Global, text: &[u8]) -> Result<Checked, Refusal>
     requires short { length text.now ≤ 65536 }
-    ensures runs { IfOk result (λ program. IsTreeOf text.now program) }
+    ensures runs { IfOk result (λ program. IsProgram text.now program) }
     ensures accepted { IfOk result (λ program. fault_of program ≡ None) }
     ensures served { IfOk result (λ program. IsTrue (is_served program)) }
     ensures refused { IfErr result (RefusesText text.now) }
@@ -54,7 +54,7 @@ fn read_text(alloc: Global, text: &[u8]) -> Result<Checked, Refusal>
 /// Reads the program of a file.
 fn read_program<F: Files>(alloc: Global, name: &str, files: &mut F) -> Result<Checked, Refusal>
     requires allowed { F.allowed name.now false }
-    ensures program { IfOk result (λ program. IfSome (F.contents files.old name.now) (λ text. IsTreeOf text program)) }
+    ensures program { IfOk result (λ program. IfSome (F.contents files.old name.now) (λ text. IsProgram text program)) }
     ensures accepted { IfOk result (λ program. fault_of program ≡ None) }
     ensures served { IfOk result (λ program. IsTrue (is_served program)) }
     ensures faults { IfOk result (λ _. F.faults files.new ≡ F.faults files.old) }
@@ -80,7 +80,7 @@ fn read_program<F: Files>(alloc: Global, name: &str, files: &mut F) -> Result<Ch
 pub fn read_job<F: Files>(alloc: Global, words: &Vec<String>, files: &mut F) -> Result<Job, Refusal>
     requires allowed { (name : List ℕ) (steps : ℕ) (cuts : List ℕ) → IsCommand (map string_bytes words.now.items) name steps cuts → F.allowed name false }
     ensures job { IfOk result (λ job. (name : List ℕ) × IsCommand (map string_bytes words.now.items) name job.steps job.cuts.items
-        × IfSome (F.contents files.old name) (λ text. IsTreeOf text job.program)) }
+        × IfSome (F.contents files.old name) (λ text. IsProgram text job.program)) }
     ensures accepted { IfOk result (λ job. fault_of job.program ≡ None) }
     ensures served { IfOk result (λ job. IsTrue (is_served job.program)) }
     ensures faults { IfOk result (λ job. F.faults files.new ≡ F.faults files.old) }

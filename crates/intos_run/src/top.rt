@@ -23,12 +23,10 @@ ghost use Rattle.thread_tree.specs.declared.place.Place.{Place};
 use crate::boots::run_boots;
 use crate::job::{Job, read_job};
 use crate::refusal::Refusal;
-use kept_alike::kept_alike;
 use kernel_boots::beginning;
 use kernel_dump::put_dump;
 use nv_memory::Nv;
 use outer_world::{Files, Sink};
-use same_runs::programs_alike;
 use served_program::served_laws;
 use served_runs::served_runs;
 use std::alloc::Global;
@@ -159,14 +157,14 @@ pub fn run<F: Files, S: Sink, N: Nv, L: Ledger>(
 
     // Every image and the last words are kept for the uncut run, and the events that they count never fall.
     ensures images { result.status ≡ 0 ⊎ result.status ≡ 6 → (task : Task) → Asks (map string_bytes words.now.items) (F.contents files.old) task
-        → HasImages task.program task.steps task.cuts (N.words nv) (N.ends result.nv) (N.words result.nv) }
+        → HasImages (program_of task.tree) task.steps task.cuts (N.words nv) (N.ends result.nv) (N.words result.nv) }
 
     // With status 0 every event is committed, and the bytes put are the report; with status 6 a prefix of it.
     ensures complete { result.status ≡ 0 → (task : Task) → Asks (map string_bytes words.now.items) (F.contents files.old) task → counter_of (N.words result.nv) ≡ task.steps }
     ensures text { result.status ≡ 0 → (task : Task) → Asks (map string_bytes words.now.items) (F.contents files.old) task
-        → S.bytes sink.new ≡ put_to (S.bytes sink.old) (report task.program task.steps task.cuts (N.words nv) (N.ends result.nv) (N.words result.nv)) }
+        → S.bytes sink.new ≡ put_to (S.bytes sink.old) (report (program_of task.tree) task.steps task.cuts (N.words nv) (N.ends result.nv) (N.words result.nv)) }
     ensures text_so_far { result.status ≡ 6 → (task : Task) → Asks (map string_bytes words.now.items) (F.contents files.old) task
-        → IsPart (S.bytes sink.old) (S.bytes sink.new) (report task.program task.steps task.cuts (N.words nv) (N.ends result.nv) (N.words result.nv)) }
+        → IsPart (S.bytes sink.old) (S.bytes sink.new) (report (program_of task.tree) task.steps task.cuts (N.words nv) (N.ends result.nv) (N.words result.nv)) }
 
     // Each status has its cause, and a run that isn't begun puts its line and nothing else.
     ensures statuses { IsStatus result.status }
@@ -192,11 +190,9 @@ pub fn run<F: Files, S: Sink, N: Nv, L: Ledger>(
 
     // The steps are at most those that the recoveries of its boots may take and 10,000 for each event and each boot.
     ensures steps { result.status ≡ 0 ⊎ result.status ≡ 6 → (task : Task) → Asks (map string_bytes words.now.items) (F.contents files.old) task
-        → StepsWithin task.program task.steps steps.old steps.new (N.words nv) (N.ends result.nv) (N.words result.nv) }
+        → StepsWithin (program_of task.tree) task.steps steps.old steps.new (N.words nv) (N.ends result.nv) (N.words result.nv) }
     ensures uncounted { IsRefusal result.status → steps.new ≡ steps.old }
 {
-    programs_alike();
-    kept_alike();
     match read_job(alloc, words, files) {
         Ok(job) => run_job(alloc, &job, sink, nv, steps),
         Err(refusal) => refuse(refusal, sink, nv),

@@ -29,18 +29,7 @@ pub record IsBlockOf (layer : Stmt-F Stmt Block) (to : List At) : Type 0 where
 
 print-call : (c : Call) (items : List Item) → printed_by c ≡ Some items → c ≡ call.Print items
 print-call (call.Print these) items is = let same : these ≡ items = cc in ap call.Print same
-print-call (call.Spawn template arguments) items is = cc
-print-call (call.Delete whom) items is = cc
-print-call (call.Delay ticks) items is = cc
-print-call (call.Setprio whom priority) items is = cc
-print-call (call.Getprio whom) items is = cc
-print-call (call.Send queue value limit) items is = cc
-print-call (call.Receive queue limit) items is = cc
-print-call (call.Take semaphore limit) items is = cc
-print-call (call.Give semaphore) items is = cc
-print-call call.Now items is = cc
-print-call call.Yield items is = cc
-print-call (call.Waiting queue) items is = cc
+print-call c items is = cc
 
 pub print-of : (layer : Stmt-F Stmt Block) (items : List Item) → printed_items layer ≡ Some items → IsPrintOf layer items
 print-of (stmt.Let at e) items is = cc
@@ -68,18 +57,7 @@ block-of (stmt.Call place c these) to is = cc
 
 one-call : (c : Call) → IsTrue (is_served_call c) → printed_by c ≡ None → ⊥
 one-call (call.Print items) served none = cc
-one-call (call.Spawn template arguments) served none = cc
-one-call (call.Delete whom) served none = cc
-one-call (call.Delay ticks) served none = cc
-one-call (call.Setprio whom priority) served none = cc
-one-call (call.Getprio whom) served none = cc
-one-call (call.Send queue value limit) served none = cc
-one-call (call.Receive queue limit) served none = cc
-one-call (call.Take semaphore limit) served none = cc
-one-call (call.Give semaphore) served none = cc
-one-call call.Now served none = cc
-one-call call.Yield served none = cc
-one-call (call.Waiting queue) served none = cc
+one-call c served none = cc
 
 -- a served action is one of the two
 pub one-of : (layer : Stmt-F Stmt Block) → IsTrue (is_served_action layer) → printed_items layer ≡ None → block_names layer ≡ None → ⊥

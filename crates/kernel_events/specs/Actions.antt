@@ -18,18 +18,7 @@ use Rattle.replay_list.specs.Stands.{console_in}
 -- the items of a call, where it is a print
 abbrev pub printed_by : Call → Option (List Item)
 printed_by (call.Print items) = Some items
-printed_by (call.Spawn template arguments) = None
-printed_by (call.Delete whom) = None
-printed_by (call.Delay ticks) = None
-printed_by (call.Setprio whom priority) = None
-printed_by (call.Getprio whom) = None
-printed_by (call.Send queue value limit) = None
-printed_by (call.Receive queue limit) = None
-printed_by (call.Take semaphore limit) = None
-printed_by (call.Give semaphore) = None
-printed_by call.Now = None
-printed_by call.Yield = None
-printed_by (call.Waiting queue) = None
+printed_by _ = None
 
 -- the items of a print, by the layer of its statement
 abbrev pub printed_items : Stmt-F Stmt Block → Option (List Item)

@@ -146,14 +146,11 @@ module _ (p : Program) (K : State) where
       either-effect K.events (is_live K w && leb q 7)
       (answers (1 ∷ []) (cond (priority_of K w == q) K (behind K w (with_priority q)))) (answers (0 ∷ []) K)
       (either-counts K.events (priority_of K w == q) K (behind K w (with_priority q)) refl refl) refl
-  call-counts t locals (call.Getprio target) = refl
   call-counts t locals (call.Send queue value limit) = send-counts (queue_number p queue.name) (value_of locals value) (value_of locals limit)
   call-counts t locals (call.Receive queue limit) = receive-counts (queue_number p queue.name) (value_of locals limit)
   call-counts t locals (call.Take semaphore limit) = take-counts (semaphore_number p semaphore.name) (value_of locals limit)
   call-counts t locals (call.Give semaphore) = give-counts (semaphore_number p semaphore.name)
-  call-counts t locals call.Now = refl
-  call-counts t locals call.Yield = refl
-  call-counts t locals (call.Waiting queue) = refl
+  call-counts t locals c = refl
 
   end-counts : (given : ℕ) (end : BlockEnd) → (effect_of_end K given end).kernel.events ≡ K.events
   end-counts given (Gave objects values) = refl

@@ -81,19 +81,8 @@ effect_of p K t locals statement = effect_of_layer p K t locals (out-Stmt statem
 
 -- whether a call of thread t deletes the thread itself
 abbrev pub is_own_delete : ℕ → List Local → Call → Bool
-is_own_delete t locals (call.Print items) = false
-is_own_delete t locals (call.Spawn template arguments) = false
 is_own_delete t locals (call.Delete target) = whom t locals target == t
-is_own_delete t locals (call.Delay ticks) = false
-is_own_delete t locals (call.Setprio target priority) = false
-is_own_delete t locals (call.Getprio target) = false
-is_own_delete t locals (call.Send queue value limit) = false
-is_own_delete t locals (call.Receive queue limit) = false
-is_own_delete t locals (call.Take semaphore limit) = false
-is_own_delete t locals (call.Give semaphore) = false
-is_own_delete t locals call.Now = false
-is_own_delete t locals call.Yield = false
-is_own_delete t locals (call.Waiting queue) = false
+is_own_delete t locals _ = false
 
 -- the call that a statement is, by its layer
 abbrev pub call_of : {S B : Type 0} → Stmt-F S B → Option Call

@@ -31,35 +31,15 @@ next_call local = option_and_then (λ s. call_of (out-Stmt s)) (next_statement l
 
 -- whether a call is a delay
 abbrev pub is_delay : Call → Bool
-is_delay (call.Print items) = false
-is_delay (call.Spawn template arguments) = false
-is_delay (call.Delete target) = false
 is_delay (call.Delay ticks) = true
-is_delay (call.Setprio target priority) = false
-is_delay (call.Getprio target) = false
-is_delay (call.Send queue value limit) = false
-is_delay (call.Receive queue limit) = false
-is_delay (call.Take semaphore limit) = false
-is_delay (call.Give semaphore) = false
-is_delay call.Now = false
-is_delay call.Yield = false
-is_delay (call.Waiting queue) = false
+is_delay _ = false
 
 -- what a call can wait for, and on which queue or semaphore
 abbrev pub awaited_by : Program → Call → Option (What × ℕ)
-awaited_by p (call.Print items) = None
-awaited_by p (call.Spawn template arguments) = None
-awaited_by p (call.Delete target) = None
-awaited_by p (call.Delay ticks) = None
-awaited_by p (call.Setprio target priority) = None
-awaited_by p (call.Getprio target) = None
 awaited_by p (call.Send queue value limit) = Some (Send, queue_number p queue.name)
 awaited_by p (call.Receive queue limit) = Some (Receive, queue_number p queue.name)
 awaited_by p (call.Take semaphore limit) = Some (Take, semaphore_number p semaphore.name)
-awaited_by p (call.Give semaphore) = None
-awaited_by p call.Now = None
-awaited_by p call.Yield = None
-awaited_by p (call.Waiting queue) = None
+awaited_by p _ = None
 
 -- a delay is the call that comes next, its tick is to come, and the records have room for it
 pub record IsDelayed (ticks wake : ℕ) (local : LocalState) (debt : ℕ) : Type 0 where

@@ -4,7 +4,7 @@ use Rattle.kernel_model.specs.Visible.{Object}
 use Rattle.kernel_model.specs.Numbers.{kind_number, object_number, field_number}
 use Rattle.kernel_model.specs.Objects.{place_for, with_new, object_at, object_of, is_made, without, with_field, static_objects}
 use Rattle.thread_tree.specs.declared.local.Local.{Local}
-use Rattle.thread_tree.specs.declared.expr.Expr.{Expr}
+use Rattle.thread_tree.specs.declared.expr.Expr.{Expr, more_of-Expr, end_of-Expr}
 use Rattle.thread_tree.specs.declared.expr.Expr.TheVariants as expr
 use Rattle.thread_tree.specs.declared.expr.FieldOf.{FieldOf}
 use Rattle.thread_tree.specs.declared.expr.FieldOf.TheVariants.{Static, Through}
@@ -82,9 +82,9 @@ abbrev pub read : Program → List Object → List Local → Expr → ℕ → Re
 read p objects locals (expr.Num value) n = Ok (record { value = value; operations = n })
 read p objects locals (expr.Local at) n = Ok (record { value = value_in locals at.name; operations = n })
 read p objects locals (expr.Field field) n = load p objects locals field n
-read p objects locals (expr.Prefix' op q e) n =
+read p objects locals (expr.Prefix' op q (more_of-Expr e end_of-Expr)) n =
     with_read (read p objects locals e n) (λ x. Ok (record x { value = applied op 0 x.value }))
-read p objects locals (expr.Binary' op q x r y) n =
+read p objects locals (expr.Binary' op q (more_of-Expr x end_of-Expr) r (more_of-Expr y end_of-Expr)) n =
     with_read (read p objects locals x n)
     (λ a. with_read (read p objects locals y a.operations) (λ b. Ok (record b { value = applied op a.value b.value })))
 

@@ -3,44 +3,25 @@ ghost use Rattle.thread_tree.specs.Kinds.{action_of, kind_of_call, record_words_
 
 use thread_tree::{Call, Stmt};
 
-// The table of kinds: the number, the call, and the words of its record, which an atomic block
-// adds the words that it gives to. It is handed to the macro `rows`, after `input`.
-macro_rules! table {
-    ($rows:ident, $input:expr) => {
-        $rows! {
-            $input;
-            1 Print 2,
-            2 Spawn 2,
-            3 Delete 2,
-            4 Delay 1,
-            5 Setprio 2,
-            6 Getprio 2,
-            7 Send 2,
-            8 Receive 3,
-            9 Take 2,
-            10 Give 2,
-            11 Now 2,
-            12 Yield 1,
-            13 Waiting 2;
-            14 turn 0,
-            15 end 0,
-            16 atomic 2
-        }
-    };
-}
-
 // The kind of a call.
 fn kind_of_call(call: &Call) -> u32
     ensures kind { result ≡ kind_of_call call.now }
 {
-    macro_rules! kind {
-        ($input:expr; $($kind:literal $call:ident $words:literal),*; $($rest:tt)*) => {
-            match $input {
-                $(Call::$call { .. } => $kind,)*
-            }
-        };
+    match call {
+        Call::Print(_) => 1,
+        Call::Spawn(..) => 2,
+        Call::Delete(_) => 3,
+        Call::Delay(_) => 4,
+        Call::Setprio(..) => 5,
+        Call::Getprio(_) => 6,
+        Call::Send(..) => 7,
+        Call::Receive(..) => 8,
+        Call::Take(..) => 9,
+        Call::Give(_) => 10,
+        Call::Now => 11,
+        Call::Yield => 12,
+        Call::Waiting(_) => 13,
     }
-    table!(kind, call)
 }
 
 /// The number of an action's kind, from 1 to 16. The statement is an action: a call, an atomic
@@ -71,15 +52,12 @@ pub fn record_words(kind: u32, given: u32) -> u32
     requires few { given ≤ 3 }
     ensures words { result ≡ record_words_of kind given }
 {
-    macro_rules! words {
-        ($input:expr; $($kind:literal $call:ident $words:literal),*; $($other:literal $name:ident $own:literal),*) => {
-            match $input {
-                $($kind => $words,)*
-                $($other => $own,)*
-                _ => unreachable!(),
-            }
-        };
+    match kind {
+        14 | 15 => 0,
+        4 | 12 => 1,
+        1 | 2 | 3 | 5 | 6 | 7 | 9 | 10 | 11 | 13 => 2,
+        8 => 3,
+        16 => 2 + given,
+        _ => unreachable!(),
     }
-    let words = table!(words, kind);
-    if kind == 16 { words + given } else { words }
 }

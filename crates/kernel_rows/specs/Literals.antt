@@ -1,6 +1,5 @@
 -- Trees written down: a program's parts with few words. Names are written by their numbers, and all places are one.
-use Rattle.std.specs.Prelude.{ℕ, List, [], ◌∷◌, map, Option, Some, None, Box}
-use Rattle.std.specs.declared.alloc.Global.{Global}
+use Rattle.std.specs.Prelude.{ℕ, List, [], ◌∷◌, map, Option, Some, None}
 use Rattle.thread_tree.specs.declared.place.Place.{Place}
 use Rattle.thread_tree.specs.declared.place.At.{At}
 use Rattle.thread_tree.specs.declared.place.Num.{Num}
@@ -9,6 +8,7 @@ use Rattle.thread_tree.specs.declared.expr.Expr.{Expr}
 use Rattle.thread_tree.specs.declared.expr.Expr.TheVariants as expr
 use Rattle.thread_tree.specs.declared.expr.FieldOf.{FieldOf}
 use Rattle.thread_tree.specs.declared.expr.FieldOf.TheVariants as field_of
+use Rattle.thread_tree.specs.Expressions as made
 use Rattle.thread_tree.specs.declared.action.Call.{Call}
 use Rattle.thread_tree.specs.declared.action.Item.{Item}
 use Rattle.thread_tree.specs.declared.action.Item.TheVariants as item
@@ -54,13 +54,9 @@ static_field object field = field_of.Static (at object) (at field)
 abbrev pub field_through : ℕ → ℕ → ℕ → FieldOf
 field_through local kind field = field_of.Through (at local) (at kind) (at field)
 
--- operators: their operands lie in boxes
-module _ (box : Box (Unit {0}) Global) where
-  abbrev pub unary : Op → Expr → Expr
-  unary op x = expr.Prefix' op box x
-
-  abbrev pub binary : Expr → Op → Expr → Expr
-  binary x op y = expr.Binary' op box x box y
+-- an operator between its operands
+abbrev pub binary : Expr → Op → Expr → Expr
+binary x op y = made.binary op x y
 
 -- a row of statements, as a statement holds it
 abbrev pub shape : List Stmt → List (Unit {0})

@@ -1,7 +1,6 @@
 -- Runs that were worked out by hand: the text that each program's dump must have after its events.
-use Rattle.std.specs.Prelude.{◌≡◌, ℕ, ◌+◌, ◌*◌, List, [], ◌∷◌, ◌++◌, length, flat_map, replicate, Some, None, Box, codes, decimal}
+use Rattle.std.specs.Prelude.{◌≡◌, ℕ, ◌+◌, ◌*◌, List, [], ◌∷◌, ◌++◌, length, flat_map, replicate, Some, None, codes, decimal}
 use Rattle.std.specs.List.{repeat, range_with_len}
-use Rattle.std.specs.declared.alloc.Global.{Global}
 use Rattle.kernel_model.specs.declared.event.Event.{Event}
 use Rattle.kernel_model.specs.declared.event.Event.TheVariants.{Step, Tick, Input}
 use Rattle.thread_tree.specs.declared.expr.Op.TheVariants as op
@@ -9,8 +8,9 @@ use Rattle.thread_tree.specs.declared.expr.Expr.TheVariants as expr
 use Rattle.thread_tree.specs.declared.action.Call.TheVariants as call
 use Rattle.thread_tree.specs.declared.action.Who.TheVariants as who
 use Rattle.thread_tree.specs.declared.tree.Tree.{Tree}
+use Rattle.thread_tree.specs.Expressions.{unary}
 use Rattle.thread_tree.specs.Program.{program_of}
-use Rattle.kernel_rows.specs.Literals.{at, tree, n, v, static_field, field_through, unary, binary, declare, assign, apply_to, when, either, repeat as while_, ploop, leave, answer, atomic, does, text, value, tdeclare, tdeclare_new, tassign, tassign_new, store, free, twhen, trepeat, abort, gives, kind, object, queue, semaphore, function, thread, start}
+use Rattle.kernel_rows.specs.Literals.{at, tree, n, v, static_field, field_through, binary, declare, assign, apply_to, when, either, repeat as while_, ploop, leave, answer, atomic, does, text, value, tdeclare, tdeclare_new, tassign, tassign_new, store, free, twhen, trepeat, abort, gives, kind, object, queue, semaphore, function, thread, start}
 use Rattle.kernel_model.specs.Dump.{dump}
 use Rattle.kernel_model.specs.Run.{after}
 use Rattle.kernel_model.specs.Show.{visible, names_of}
@@ -22,8 +22,8 @@ dump_after tree events =
 
 -- the program
 --     thread t() priority 1 { print "a"; print "b"; } start t();
-abbrev pub two_prints_program : Box (Unit {0}) Global → Tree
-two_prints_program box =
+abbrev pub two_prints_program : Tree
+two_prints_program =
     tree (codes "t" ∷ [])
     (thread 0 [] 1 (
     does (call.Print (text (codes "a") ∷ [])) []
@@ -34,8 +34,8 @@ two_prints_program box =
 
 -- two steps of a thread that prints twice
 abbrev pub TwoPrints : Type 0
-TwoPrints = (box : Box (Unit {0}) Global) →
-    dump_after (two_prints_program box) (replicate 2 Step)
+TwoPrints =
+    dump_after two_prints_program (replicate 2 Step)
     ≡ codes "events 2\n"
     ++ codes "ticks 0\n"
     ++ codes "thread 0 t priority 1 ready\n"
@@ -45,31 +45,31 @@ TwoPrints = (box : Box (Unit {0}) Global) →
     ++ codes "| b\n"
 
 -- the empty program
-abbrev pub nobody_ready_program : Box (Unit {0}) Global → Tree
-nobody_ready_program box =
+abbrev pub nobody_ready_program : Tree
+nobody_ready_program =
     tree []
     []
 
 -- three steps where nobody is ready
 abbrev pub NobodyReady : Type 0
-NobodyReady = (box : Box (Unit {0}) Global) →
-    dump_after (nobody_ready_program box) (replicate 3 Step)
+NobodyReady =
+    dump_after nobody_ready_program (replicate 3 Step)
     ≡ codes "events 3\n"
     ++ codes "ticks 0\n"
     ++ codes "console 0\n"
 
 -- one tick of a kernel without threads
 abbrev pub OneTick : Type 0
-OneTick = (box : Box (Unit {0}) Global) →
-    dump_after (nobody_ready_program box) (Tick ∷ [])
+OneTick =
+    dump_after nobody_ready_program (Tick ∷ [])
     ≡ codes "events 1\n"
     ++ codes "ticks 1\n"
     ++ codes "console 0\n"
 
 -- no event at all
 abbrev pub NoEvent : Type 0
-NoEvent = (box : Box (Unit {0}) Global) →
-    dump_after (nobody_ready_program box) []
+NoEvent =
+    dump_after nobody_ready_program []
     ≡ codes "events 0\n"
     ++ codes "ticks 0\n"
     ++ codes "console 0\n"
@@ -85,8 +85,8 @@ NoEvent = (box : Box (Unit {0}) Global) →
 --       print ok, " ", x;
 --     }
 --     start t();
-abbrev pub abort_and_give_program : Box (Unit {0}) Global → Tree
-abort_and_give_program box =
+abbrev pub abort_and_give_program : Tree
+abort_and_give_program =
     tree (codes "T" ∷ codes "v" ∷ codes "o" ∷ codes "t" ∷ codes "ok" ∷ codes "x" ∷ [])
     (kind 0 (1 ∷ [])
     ∷ object 2 0
@@ -97,7 +97,7 @@ abort_and_give_program box =
     ∷ does (call.Print (value (v 4) ∷ [])) []
     ∷ atomic (4 ∷ 5 ∷ []) (
     store (static_field 2 1) (n 5)
-    ∷ store (static_field 2 1) (binary box (expr.Field (static_field 2 1)) op.Plus (n 1))
+    ∷ store (static_field 2 1) (binary (expr.Field (static_field 2 1)) op.Plus (n 1))
     ∷ gives ((expr.Field (static_field 2 1)) ∷ [])
     ∷ [])
     ∷ does (call.Print (value (v 4) ∷ text (codes " ") ∷ value (v 5) ∷ [])) []
@@ -107,8 +107,8 @@ abort_and_give_program box =
 
 -- a word stored twice, then abort; then a block that gives
 abbrev pub AbortAndGive : Type 0
-AbortAndGive = (box : Box (Unit {0}) Global) →
-    dump_after (abort_and_give_program box) (replicate 4 Step)
+AbortAndGive =
+    dump_after abort_and_give_program (replicate 4 Step)
     ≡ codes "events 4\n"
     ++ codes "ticks 0\n"
     ++ codes "thread 0 t priority 1 ready\n"
@@ -120,15 +120,15 @@ AbortAndGive = (box : Box (Unit {0}) Global) →
 
 -- the program
 --     type T { v } object o: T; thread t() priority 1 { atomic { let i = 0; while i < 65 { o.v = i; i = i + 1; } } } start t();
-abbrev pub one_store_too_many_program : Box (Unit {0}) Global → Tree
-one_store_too_many_program box =
+abbrev pub one_store_too_many_program : Tree
+one_store_too_many_program =
     tree (codes "T" ∷ codes "v" ∷ codes "o" ∷ codes "t" ∷ codes "i" ∷ [])
     (kind 0 (1 ∷ [])
     ∷ object 2 0
     ∷ thread 3 [] 1 (
     atomic [] (
     tdeclare 4 (n 0)
-    ∷ trepeat (binary box (v 4) op.Less (n 65)) (store (static_field 2 1) (v 4) ∷ tassign 4 (binary box (v 4) op.Plus (n 1)) ∷ [])
+    ∷ trepeat (binary (v 4) op.Less (n 65)) (store (static_field 2 1) (v 4) ∷ tassign 4 (binary (v 4) op.Plus (n 1)) ∷ [])
     ∷ [])
     ∷ [])
     ∷ start 3 []
@@ -136,8 +136,8 @@ one_store_too_many_program box =
 
 -- the 65th store of a block is one operation too many
 abbrev pub OneStoreTooMany : Type 0
-OneStoreTooMany = (box : Box (Unit {0}) Global) →
-    dump_after (one_store_too_many_program box) (Step ∷ [])
+OneStoreTooMany =
+    dump_after one_store_too_many_program (Step ∷ [])
     ≡ codes "events 1\n"
     ++ codes "ticks 0\n"
     ++ codes "thread 0 t priority 1 ended 2\n"
@@ -146,15 +146,15 @@ OneStoreTooMany = (box : Box (Unit {0}) Global) →
 
 -- the program
 --     type T { v } object o: T; thread t() priority 1 { atomic { let i = 0; while i < 64 { o.v = i; i = i + 1; } } } start t();
-abbrev pub as_many_stores_as_allowed_program : Box (Unit {0}) Global → Tree
-as_many_stores_as_allowed_program box =
+abbrev pub as_many_stores_as_allowed_program : Tree
+as_many_stores_as_allowed_program =
     tree (codes "T" ∷ codes "v" ∷ codes "o" ∷ codes "t" ∷ codes "i" ∷ [])
     (kind 0 (1 ∷ [])
     ∷ object 2 0
     ∷ thread 3 [] 1 (
     atomic [] (
     tdeclare 4 (n 0)
-    ∷ trepeat (binary box (v 4) op.Less (n 64)) (store (static_field 2 1) (v 4) ∷ tassign 4 (binary box (v 4) op.Plus (n 1)) ∷ [])
+    ∷ trepeat (binary (v 4) op.Less (n 64)) (store (static_field 2 1) (v 4) ∷ tassign 4 (binary (v 4) op.Plus (n 1)) ∷ [])
     ∷ [])
     ∷ [])
     ∷ start 3 []
@@ -162,8 +162,8 @@ as_many_stores_as_allowed_program box =
 
 -- a block of 64 stores
 abbrev pub AsManyStoresAsAllowed : Type 0
-AsManyStoresAsAllowed = (box : Box (Unit {0}) Global) →
-    dump_after (as_many_stores_as_allowed_program box) (Step ∷ [])
+AsManyStoresAsAllowed =
+    dump_after as_many_stores_as_allowed_program (Step ∷ [])
     ≡ codes "events 1\n"
     ++ codes "ticks 0\n"
     ++ codes "thread 0 t priority 1 ready\n"
@@ -173,8 +173,8 @@ AsManyStoresAsAllowed = (box : Box (Unit {0}) Global) →
 
 -- the program
 --     thread a() priority 2 { while 1 { } } thread b() priority 1 { print "b"; } start a(); start b();
-abbrev pub endless_loop_program : Box (Unit {0}) Global → Tree
-endless_loop_program box =
+abbrev pub endless_loop_program : Tree
+endless_loop_program =
     tree (codes "a" ∷ codes "b" ∷ [])
     (thread 0 [] 2 (while_ (n 1) [] ∷ [])
     ∷ thread 1 [] 1 (does (call.Print (text (codes "b") ∷ [])) [] ∷ [])
@@ -184,8 +184,8 @@ endless_loop_program box =
 
 -- a thread that only moves is ended, and then the next one runs
 abbrev pub EndlessLoop : Type 0
-EndlessLoop = (box : Box (Unit {0}) Global) →
-    dump_after (endless_loop_program box) (replicate 2 Step)
+EndlessLoop =
+    dump_after endless_loop_program (replicate 2 Step)
     ≡ codes "events 2\n"
     ++ codes "ticks 0\n"
     ++ codes "thread 0 a priority 2 ended 1\n"
@@ -199,8 +199,8 @@ EndlessLoop = (box : Box (Unit {0}) Global) →
 --     thread r() priority 2 { let ok = 0; let v = 0; receive q, 4294967295 -> ok, v; print v; delay 900000; }
 --     thread s() priority 1 { let ok = 0; delay 1; send q, 7, 0 -> ok; delay 900000; }
 --     start r(); start s();
-abbrev pub both_delayed_program : Box (Unit {0}) Global → Tree
-both_delayed_program box =
+abbrev pub both_delayed_program : Tree
+both_delayed_program =
     tree (codes "q" ∷ codes "r" ∷ codes "ok" ∷ codes "v" ∷ codes "s" ∷ [])
     (queue 0 1 None
     ∷ thread 1 [] 2 (
@@ -222,8 +222,8 @@ both_delayed_program box =
 
 -- a blocked receive is finished by a send; then 10,003 steps with nobody ready
 abbrev pub BothDelayed : Type 0
-BothDelayed = (box : Box (Unit {0}) Global) →
-    dump_after (both_delayed_program box) (replicate 2 Step ++ Tick ∷ [] ++ replicate 10004 Step)
+BothDelayed =
+    dump_after both_delayed_program (replicate 2 Step ++ Tick ∷ [] ++ replicate 10004 Step)
     ≡ codes "events 10007\n"
     ++ codes "ticks 1\n"
     ++ codes "thread 0 r priority 2 delayed until 900001\n"
@@ -238,8 +238,8 @@ BothDelayed = (box : Box (Unit {0}) Global) →
 --     thread r(p) priority 1 { let ok = 0; let v = 0; setprio self, p -> ok; receive q, 4294967295 -> ok, v; print p, ":", v; }
 --     thread s() priority 0 { let ok = 0; send q, 5, 0 -> ok; send q, 6, 0 -> ok; }
 --     start r(1); start r(2); start s();
-abbrev pub urgent_first_program : Box (Unit {0}) Global → Tree
-urgent_first_program box =
+abbrev pub urgent_first_program : Tree
+urgent_first_program =
     tree (codes "q" ∷ codes "r" ∷ codes "p" ∷ codes "ok" ∷ codes "v" ∷ codes "s" ∷ [])
     (queue 0 2 None
     ∷ thread 1 (2 ∷ []) 1 (
@@ -261,8 +261,8 @@ urgent_first_program box =
 
 -- the urgent receiver comes later and is served first
 abbrev pub UrgentFirst : Type 0
-UrgentFirst = (box : Box (Unit {0}) Global) →
-    dump_after (urgent_first_program box) (replicate 9 Step)
+UrgentFirst =
+    dump_after urgent_first_program (replicate 9 Step)
     ≡ codes "events 9\n"
     ++ codes "ticks 0\n"
     ++ codes "thread 0 r priority 1 ready\n"
@@ -280,8 +280,8 @@ UrgentFirst = (box : Box (Unit {0}) Global) →
 --     thread r() priority 2 { let ok = 5; let v = 5; receive q, 1 -> ok, v; print ok, v; }
 --     thread s() priority 1 { let ok = 0; send q, 9, 0 -> ok; print "s", ok; }
 --     start r(); start s();
-abbrev pub tick_before_send_program : Box (Unit {0}) Global → Tree
-tick_before_send_program box =
+abbrev pub tick_before_send_program : Tree
+tick_before_send_program =
     tree (codes "q" ∷ codes "r" ∷ codes "ok" ∷ codes "v" ∷ codes "s" ∷ [])
     (queue 0 1 None
     ∷ thread 1 [] 2 (
@@ -301,8 +301,8 @@ tick_before_send_program box =
 
 -- a receive ends by its limit before the send
 abbrev pub TickBeforeSend : Type 0
-TickBeforeSend = (box : Box (Unit {0}) Global) →
-    dump_after (tick_before_send_program box) (Step ∷ [] ++ Tick ∷ [] ++ replicate 4 Step)
+TickBeforeSend =
+    dump_after tick_before_send_program (Step ∷ [] ++ Tick ∷ [] ++ replicate 4 Step)
     ≡ codes "events 6\n"
     ++ codes "ticks 1\n"
     ++ codes "thread 0 r priority 2 ended 0\n"
@@ -315,8 +315,8 @@ TickBeforeSend = (box : Box (Unit {0}) Global) →
 
 -- the send comes before the limit of the receive
 abbrev pub SendBeforeTick : Type 0
-SendBeforeTick = (box : Box (Unit {0}) Global) →
-    dump_after (tick_before_send_program box) (replicate 2 Step ++ Tick ∷ [] ++ Step ∷ [])
+SendBeforeTick =
+    dump_after tick_before_send_program (replicate 2 Step ++ Tick ∷ [] ++ Step ∷ [])
     ≡ codes "events 4\n"
     ++ codes "ticks 1\n"
     ++ codes "thread 0 r priority 2 ready\n"
@@ -332,8 +332,8 @@ SendBeforeTick = (box : Box (Unit {0}) Global) →
 --     object c: C;
 --     thread w() priority 1 { let x = 0; let ok = 0; ploop { atomic -> ok, x { c.n = c.n + 1; give c.n; } } }
 --     start w();
-abbrev pub persistent_loop_program : Box (Unit {0}) Global → Tree
-persistent_loop_program box =
+abbrev pub persistent_loop_program : Tree
+persistent_loop_program =
     tree (codes "C" ∷ codes "n" ∷ codes "c" ∷ codes "w" ∷ codes "x" ∷ codes "ok" ∷ [])
     (kind 0 (1 ∷ [])
     ∷ object 2 0
@@ -342,7 +342,7 @@ persistent_loop_program box =
     ∷ declare 5 (n 0)
     ∷ ploop (
     atomic (5 ∷ 4 ∷ []) (
-    store (static_field 2 1) (binary box (expr.Field (static_field 2 1)) op.Plus (n 1))
+    store (static_field 2 1) (binary (expr.Field (static_field 2 1)) op.Plus (n 1))
     ∷ gives ((expr.Field (static_field 2 1)) ∷ [])
     ∷ [])
     ∷ [])
@@ -352,8 +352,8 @@ persistent_loop_program box =
 
 -- a persistent loop counts to 1,000
 abbrev pub PersistentLoop : Type 0
-PersistentLoop = (box : Box (Unit {0}) Global) →
-    dump_after (persistent_loop_program box) (replicate 2000 Step)
+PersistentLoop =
+    dump_after persistent_loop_program (replicate 2000 Step)
     ≡ codes "events 2000\n"
     ++ codes "ticks 0\n"
     ++ codes "thread 0 w priority 1 ready\n"
@@ -363,8 +363,8 @@ PersistentLoop = (box : Box (Unit {0}) Global) →
 
 -- the program
 --     thread t() priority 1 { while 1 { print "x"; } } start t();
-abbrev pub no_record_room_program : Box (Unit {0}) Global → Tree
-no_record_room_program box =
+abbrev pub no_record_room_program : Tree
+no_record_room_program =
     tree (codes "t" ∷ [])
     (thread 0 [] 1 (while_ (n 1) (does (call.Print (text (codes "x") ∷ [])) [] ∷ []) ∷ [])
     ∷ start 0 []
@@ -372,8 +372,8 @@ no_record_room_program box =
 
 -- 128 prints fill the records, and the next one ends the thread
 abbrev pub NoRecordRoom : Type 0
-NoRecordRoom = (box : Box (Unit {0}) Global) →
-    dump_after (no_record_room_program box) (replicate 129 Step)
+NoRecordRoom =
+    dump_after no_record_room_program (replicate 129 Step)
     ≡ codes "events 129\n"
     ++ codes "ticks 0\n"
     ++ codes "thread 0 t priority 1 ended 4\n"
@@ -382,8 +382,8 @@ NoRecordRoom = (box : Box (Unit {0}) Global) →
 
 -- the program
 --     thread t() priority 1 { ploop { print "x"; } } start t();
-abbrev pub turns_make_room_program : Box (Unit {0}) Global → Tree
-turns_make_room_program box =
+abbrev pub turns_make_room_program : Tree
+turns_make_room_program =
     tree (codes "t" ∷ [])
     (thread 0 [] 1 (ploop (does (call.Print (text (codes "x") ∷ [])) [] ∷ []) ∷ [])
     ∷ start 0 []
@@ -391,8 +391,8 @@ turns_make_room_program box =
 
 -- turns empty the records
 abbrev pub TurnsMakeRoom : Type 0
-TurnsMakeRoom = (box : Box (Unit {0}) Global) →
-    dump_after (turns_make_room_program box) (replicate 258 Step)
+TurnsMakeRoom =
+    dump_after turns_make_room_program (replicate 258 Step)
     ≡ codes "events 258\n"
     ++ codes "ticks 0\n"
     ++ codes "thread 0 t priority 1 ready\n"
@@ -405,8 +405,8 @@ TurnsMakeRoom = (box : Box (Unit {0}) Global) →
 --     thread w(a) priority 2 { let ok = 0; let v = 0; receive q, 4294967295 -> ok, v; print a, v; }
 --     thread m() priority 1 { let ok = 0; let t = 0; delete 0 -> ok; spawn w(8) -> t; send q, 3, 0 -> ok; print t, ok; }
 --     start w(7); start m();
-abbrev pub row_used_again_program : Box (Unit {0}) Global → Tree
-row_used_again_program box =
+abbrev pub row_used_again_program : Tree
+row_used_again_program =
     tree (codes "q" ∷ codes "w" ∷ codes "a" ∷ codes "ok" ∷ codes "v" ∷ codes "m" ∷ codes "t" ∷ [])
     (queue 0 1 None
     ∷ thread 1 (2 ∷ []) 2 (
@@ -429,8 +429,8 @@ row_used_again_program box =
 
 -- a row is freed and used again
 abbrev pub RowUsedAgain : Type 0
-RowUsedAgain = (box : Box (Unit {0}) Global) →
-    dump_after (row_used_again_program box) (replicate 8 Step)
+RowUsedAgain =
+    dump_after row_used_again_program (replicate 8 Step)
     ≡ codes "events 8\n"
     ++ codes "ticks 0\n"
     ++ codes "thread 0 w priority 2 ended 0\n"
@@ -458,8 +458,8 @@ RowUsedAgain = (box : Box (Unit {0}) Global) →
 --       atomic -> ok, r { let x = 26; give x.B.a; }
 --     }
 --     start t();
-abbrev pub full_heap_program : Box (Unit {0}) Global → Tree
-full_heap_program box =
+abbrev pub full_heap_program : Tree
+full_heap_program =
     tree (codes "A" ∷ codes "a" ∷ codes "B" ∷ codes "b" ∷ codes "c" ∷ codes "d" ∷ codes "e" ∷ codes "f" ∷ codes "g" ∷ codes "h" ∷ codes "i" ∷ codes "j" ∷ codes "t" ∷ codes "k" ∷ codes "ok" ∷ codes "p" ∷ codes "r" ∷ codes "x" ∷ [])
     (kind 0 (1 ∷ [])
     ∷ kind 2 (1 ∷ 3 ∷ 4 ∷ 5 ∷ 6 ∷ 7 ∷ 8 ∷ 9 ∷ 10 ∷ 11 ∷ [])
@@ -468,13 +468,13 @@ full_heap_program box =
     ∷ declare 14 (n 0)
     ∷ declare 15 (n 0)
     ∷ declare 16 (n 0)
-    ∷ while_ (binary box (v 13) op.Less (n 11)) (
+    ∷ while_ (binary (v 13) op.Less (n 11)) (
     atomic (14 ∷ []) (
     tdeclare 10 (n 0)
     ∷ tdeclare 17 (n 0)
-    ∷ trepeat (binary box (v 10) op.Less (n 31)) (tassign_new 17 2 ∷ tassign 10 (binary box (v 10) op.Plus (n 1)) ∷ [])
+    ∷ trepeat (binary (v 10) op.Less (n 31)) (tassign_new 17 2 ∷ tassign 10 (binary (v 10) op.Plus (n 1)) ∷ [])
     ∷ [])
-    ∷ assign 13 (binary box (v 13) op.Plus (n 1))
+    ∷ assign 13 (binary (v 13) op.Plus (n 1))
     ∷ [])
     ∷ atomic (14 ∷ 15 ∷ []) (tdeclare_new 17 2 ∷ gives ((v 17) ∷ []) ∷ [])
     ∷ does (call.Print (value (v 15) ∷ [])) []
@@ -488,8 +488,8 @@ full_heap_program box =
 
 -- 341 objects fill the heap, and a freed place is used for a smaller one
 abbrev pub FullHeap : Type 0
-FullHeap = (box : Box (Unit {0}) Global) →
-    dump_after (full_heap_program box) (replicate 17 Step)
+FullHeap =
+    dump_after full_heap_program (replicate 17 Step)
     ≡ codes "events 17\n"
     ++ codes "ticks 0\n"
     ++ codes "thread 0 t priority 1 ended 3\n"
@@ -545,8 +545,8 @@ FullHeap = (box : Box (Unit {0}) Global) →
 --     start sample();
 --     start filter();
 --     start logger();
-abbrev pub sensor_program : Box (Unit {0}) Global → Tree
-sensor_program box =
+abbrev pub sensor_program : Tree
+sensor_program =
     tree (codes "Stat" ∷ codes "count" ∷ codes "sum" ∷ codes "most" ∷ codes "st" ∷ codes "raw" ∷ codes "good" ∷ codes "lamp" ∷ codes "scale" ∷ codes "v" ∷ codes "sample" ∷ codes "ok" ∷ codes "filter" ∷ codes "n" ∷ codes "logger" ∷ codes "c" ∷ codes "s" ∷ codes "t" ∷ [])
     (kind 0 (1 ∷ 2 ∷ 3 ∷ [])
     ∷ object 4 0
@@ -554,14 +554,14 @@ sensor_program box =
     ∷ queue 6 4 None
     ∷ semaphore 7 0 4
     ∷ function 8 (9 ∷ []) (
-    answer (Some (binary box (binary box (binary box (v 9) op.Times (n 3)) op.Over (n 2)) op.Plus (n 1)))
+    answer (Some (binary (binary (binary (v 9) op.Times (n 3)) op.Over (n 2)) op.Plus (n 1)))
     ∷ [])
     ∷ thread 10 [] 3 (
     declare 11 (n 0)
     ∷ declare 9 (n 0)
     ∷ ploop (
     does (call.Receive (at 5) (n 4294967295)) (11 ∷ 9 ∷ [])
-    ∷ when (binary box (v 9) op.Less (n 1000)) (apply_to 9 8 ((v 9) ∷ []) ∷ does (call.Send (at 6) (v 9) (n 5)) (11 ∷ []) ∷ [])
+    ∷ when (binary (v 9) op.Less (n 1000)) (apply_to 9 8 ((v 9) ∷ []) ∷ does (call.Send (at 6) (v 9) (n 5)) (11 ∷ []) ∷ [])
     ∷ [])
     ∷ [])
     ∷ thread 12 [] 2 (
@@ -572,12 +572,12 @@ sensor_program box =
     does (call.Receive (at 6) (n 50)) (11 ∷ 9 ∷ [])
     ∷ when (v 11) (
     atomic (11 ∷ 13 ∷ []) (
-    store (static_field 4 1) (binary box (expr.Field (static_field 4 1)) op.Plus (n 1))
-    ∷ store (static_field 4 2) (binary box (expr.Field (static_field 4 2)) op.Plus (v 9))
-    ∷ twhen (binary box (v 9) op.More (expr.Field (static_field 4 3))) (store (static_field 4 3) (v 9) ∷ [])
+    store (static_field 4 1) (binary (expr.Field (static_field 4 1)) op.Plus (n 1))
+    ∷ store (static_field 4 2) (binary (expr.Field (static_field 4 2)) op.Plus (v 9))
+    ∷ twhen (binary (v 9) op.More (expr.Field (static_field 4 3))) (store (static_field 4 3) (v 9) ∷ [])
     ∷ gives ((expr.Field (static_field 4 1)) ∷ [])
     ∷ [])
-    ∷ when (binary box (binary box (v 13) op.Rest (n 10)) op.Same (n 0)) (does (call.Give (at 7)) (11 ∷ []) ∷ [])
+    ∷ when (binary (binary (v 13) op.Rest (n 10)) op.Same (n 0)) (does (call.Give (at 7)) (11 ∷ []) ∷ [])
     ∷ [])
     ∷ [])
     ∷ [])
@@ -604,8 +604,8 @@ sensor_program box =
 
 -- three threads of a sensor
 abbrev pub Sensor : Type 0
-Sensor = (box : Box (Unit {0}) Global) →
-    dump_after (sensor_program box) (replicate 2 Step ++ Input 0 10 ∷ [] ++ replicate 10 Step ++ Tick ∷ [] ++ Input 0 2000 ∷ [] ++ replicate 2 Step)
+Sensor =
+    dump_after sensor_program (replicate 2 Step ++ Input 0 10 ∷ [] ++ replicate 10 Step ++ Tick ∷ [] ++ Input 0 2000 ∷ [] ++ replicate 2 Step)
     ≡ codes "events 17\n"
     ++ codes "ticks 1\n"
     ++ codes "thread 0 sample priority 3 waiting to receive raw for ever\n"
@@ -623,8 +623,8 @@ Sensor = (box : Box (Unit {0}) Global) →
 
 -- the program
 --     thread t(c) priority 1 { while 1 { print c; } } start t(1); start t(2);
-abbrev pub slices_program : Box (Unit {0}) Global → Tree
-slices_program box =
+abbrev pub slices_program : Tree
+slices_program =
     tree (codes "t" ∷ codes "c" ∷ [])
     (thread 0 (1 ∷ []) 1 (while_ (n 1) (does (call.Print (value (v 1) ∷ [])) [] ∷ []) ∷ [])
     ∷ start 0 (1 ∷ [])
@@ -633,8 +633,8 @@ slices_program box =
 
 -- equals share time by ticks
 abbrev pub Slices : Type 0
-Slices = (box : Box (Unit {0}) Global) →
-    dump_after (slices_program box) (replicate 2 Step ++ Tick ∷ [] ++ replicate 2 Step ++ Tick ∷ [] ++ Step ∷ [])
+Slices =
+    dump_after slices_program (replicate 2 Step ++ Tick ∷ [] ++ replicate 2 Step ++ Tick ∷ [] ++ Step ∷ [])
     ≡ codes "events 7\n"
     ++ codes "ticks 2\n"
     ++ codes "thread 0 t priority 1 ready\n"
@@ -649,8 +649,8 @@ Slices = (box : Box (Unit {0}) Global) →
 
 -- the program
 --     semaphore s = 1 max 1; thread t() priority 1 { let ok = 0; give s -> ok; print ok; take s, 0 -> ok; print ok; take s, 0 -> ok; print ok; } start t();
-abbrev pub greatest_count_program : Box (Unit {0}) Global → Tree
-greatest_count_program box =
+abbrev pub greatest_count_program : Tree
+greatest_count_program =
     tree (codes "s" ∷ codes "t" ∷ codes "ok" ∷ [])
     (semaphore 0 1 1
     ∷ thread 1 [] 1 (
@@ -667,8 +667,8 @@ greatest_count_program box =
 
 -- a semaphore at its maximum
 abbrev pub GreatestCount : Type 0
-GreatestCount = (box : Box (Unit {0}) Global) →
-    dump_after (greatest_count_program box) (replicate 6 Step)
+GreatestCount =
+    dump_after greatest_count_program (replicate 6 Step)
     ≡ codes "events 6\n"
     ++ codes "ticks 0\n"
     ++ codes "thread 0 t priority 1 ready\n"
@@ -681,8 +681,8 @@ GreatestCount = (box : Box (Unit {0}) Global) →
 
 -- the program
 --     thread t() priority 0 { } thread m() priority 1 { let x = 0; spawn t() -> x; print x; } start m(); start t(); start t(); start t(); start t(); start t(); start t(); start t(); start t(); start t(); start t(); start t(); start t(); start t(); start t(); start t();
-abbrev pub no_row_free_program : Box (Unit {0}) Global → Tree
-no_row_free_program box =
+abbrev pub no_row_free_program : Tree
+no_row_free_program =
     tree (codes "t" ∷ codes "m" ∷ codes "x" ∷ [])
     (thread 0 [] 0 []
     ∷ thread 1 [] 1 (
@@ -710,8 +710,8 @@ no_row_free_program box =
 
 -- a spawn where no row is free
 abbrev pub NoRowFree : Type 0
-NoRowFree = (box : Box (Unit {0}) Global) →
-    dump_after (no_row_free_program box) (replicate 2 Step)
+NoRowFree =
+    dump_after no_row_free_program (replicate 2 Step)
     ≡ codes "events 2\n"
     ++ codes "ticks 0\n"
     ++ codes "thread 0 m priority 1 ready\n"
@@ -737,19 +737,19 @@ NoRowFree = (box : Box (Unit {0}) Global) →
 
 -- the program
 --     thread t() priority 1 { print 7 / 0, " ", 7 % 0, " ", 0 - 1, " ", 1 << 33; } start t();
-abbrev pub arithmetic_program : Box (Unit {0}) Global → Tree
-arithmetic_program box =
+abbrev pub arithmetic_program : Tree
+arithmetic_program =
     tree (codes "t" ∷ [])
     (thread 0 [] 1 (
-    does (call.Print (value (binary box (n 7) op.Over (n 0)) ∷ text (codes " ") ∷ value (binary box (n 7) op.Rest (n 0)) ∷ text (codes " ") ∷ value (binary box (n 0) op.Minus (n 1)) ∷ text (codes " ") ∷ value (binary box (n 1) op.Left (n 33)) ∷ [])) []
+    does (call.Print (value (binary (n 7) op.Over (n 0)) ∷ text (codes " ") ∷ value (binary (n 7) op.Rest (n 0)) ∷ text (codes " ") ∷ value (binary (n 0) op.Minus (n 1)) ∷ text (codes " ") ∷ value (binary (n 1) op.Left (n 33)) ∷ [])) []
     ∷ [])
     ∷ start 0 []
     ∷ [])
 
 -- division by 0, a difference below 0 and a shift by more than 31
 abbrev pub Arithmetic : Type 0
-Arithmetic = (box : Box (Unit {0}) Global) →
-    dump_after (arithmetic_program box) (Step ∷ [])
+Arithmetic =
+    dump_after arithmetic_program (Step ∷ [])
     ≡ codes "events 1\n"
     ++ codes "ticks 0\n"
     ++ codes "thread 0 t priority 1 ready\n"
@@ -759,14 +759,14 @@ Arithmetic = (box : Box (Unit {0}) Global) →
 
 -- the program
 --     thread t() priority 1 { let ok = 0; ploop { print "xxxxxxxxxxxxxxxxxxxxxxxxxxxxxxxxxxxxxxxxxxxxxxxxxxxxxxxxxxxxxxxx" -> ok; if !ok { print "f" -> ok; } } } start t();
-abbrev pub console_nearly_full_program : Box (Unit {0}) Global → Tree
-console_nearly_full_program box =
+abbrev pub console_nearly_full_program : Tree
+console_nearly_full_program =
     tree (codes "t" ∷ codes "ok" ∷ [])
     (thread 0 [] 1 (
     declare 1 (n 0)
     ∷ ploop (
     does (call.Print (text (codes "xxxxxxxxxxxxxxxxxxxxxxxxxxxxxxxxxxxxxxxxxxxxxxxxxxxxxxxxxxxxxxxx") ∷ [])) (1 ∷ [])
-    ∷ when (unary box op.Not (v 1)) (does (call.Print (text (codes "f") ∷ [])) (1 ∷ []) ∷ [])
+    ∷ when (unary op.Not (v 1)) (does (call.Print (text (codes "f") ∷ [])) (1 ∷ []) ∷ [])
     ∷ [])
     ∷ [])
     ∷ start 0 []
@@ -774,8 +774,8 @@ console_nearly_full_program box =
 
 -- the 127th print finds no room
 abbrev pub ConsoleNearlyFull : Type 0
-ConsoleNearlyFull = (box : Box (Unit {0}) Global) →
-    dump_after (console_nearly_full_program box) (replicate 254 Step)
+ConsoleNearlyFull =
+    dump_after console_nearly_full_program (replicate 254 Step)
     ≡ codes "events 254\n"
     ++ codes "ticks 0\n"
     ++ codes "thread 0 t priority 1 ready\n"
@@ -785,8 +785,8 @@ ConsoleNearlyFull = (box : Box (Unit {0}) Global) →
 
 -- a shorter print still fits
 abbrev pub ConsoleFull : Type 0
-ConsoleFull = (box : Box (Unit {0}) Global) →
-    dump_after (console_nearly_full_program box) (replicate 255 Step)
+ConsoleFull =
+    dump_after console_nearly_full_program (replicate 255 Step)
     ≡ codes "events 255\n"
     ++ codes "ticks 0\n"
     ++ codes "thread 0 t priority 1 ready\n"
@@ -797,8 +797,8 @@ ConsoleFull = (box : Box (Unit {0}) Global) →
 
 -- a full console stays as it is
 abbrev pub ConsoleStaysFull : Type 0
-ConsoleStaysFull = (box : Box (Unit {0}) Global) →
-    dump_after (console_nearly_full_program box) (replicate 258 Step)
+ConsoleStaysFull =
+    dump_after console_nearly_full_program (replicate 258 Step)
     ≡ codes "events 258\n"
     ++ codes "ticks 0\n"
     ++ codes "thread 0 t priority 1 ready\n"
@@ -809,10 +809,10 @@ ConsoleStaysFull = (box : Box (Unit {0}) Global) →
 
 -- the program
 --     fn f(a) { return a * 2; } thread t() priority 1 { let x = 0; x = f(4); print x; } start t();
-abbrev pub a_function_program : Box (Unit {0}) Global → Tree
-a_function_program box =
+abbrev pub a_function_program : Tree
+a_function_program =
     tree (codes "f" ∷ codes "a" ∷ codes "t" ∷ codes "x" ∷ [])
-    (function 0 (1 ∷ []) (answer (Some (binary box (v 1) op.Times (n 2))) ∷ [])
+    (function 0 (1 ∷ []) (answer (Some (binary (v 1) op.Times (n 2))) ∷ [])
     ∷ thread 2 [] 1 (
     declare 3 (n 0)
     ∷ apply_to 3 0 ((n 4) ∷ [])
@@ -823,8 +823,8 @@ a_function_program box =
 
 -- the value that a function returns
 abbrev pub AFunction : Type 0
-AFunction = (box : Box (Unit {0}) Global) →
-    dump_after (a_function_program box) (Step ∷ [])
+AFunction =
+    dump_after a_function_program (Step ∷ [])
     ≡ codes "events 1\n"
     ++ codes "ticks 0\n"
     ++ codes "thread 0 t priority 1 ready\n"
@@ -834,8 +834,8 @@ AFunction = (box : Box (Unit {0}) Global) →
 
 -- the program
 --     type T { v } object o: T; thread t() priority 1 { atomic { free 2; } } start t();
-abbrev pub static_stays_program : Box (Unit {0}) Global → Tree
-static_stays_program box =
+abbrev pub static_stays_program : Tree
+static_stays_program =
     tree (codes "T" ∷ codes "v" ∷ codes "o" ∷ codes "t" ∷ [])
     (kind 0 (1 ∷ [])
     ∷ object 2 0
@@ -845,8 +845,8 @@ static_stays_program box =
 
 -- a static object can't be freed
 abbrev pub StaticStays : Type 0
-StaticStays = (box : Box (Unit {0}) Global) →
-    dump_after (static_stays_program box) (Step ∷ [])
+StaticStays =
+    dump_after static_stays_program (Step ∷ [])
     ≡ codes "events 1\n"
     ++ codes "ticks 0\n"
     ++ codes "thread 0 t priority 1 ended 3\n"
@@ -857,8 +857,8 @@ StaticStays = (box : Box (Unit {0}) Global) →
 --     thread a(x) priority 1 { print x; }
 --     thread m() priority 2 { let t = 0; let ok = 0; spawn a(5) -> t; setprio t, 3 -> ok; print t, ok; getprio t -> ok; print ok; delete self; }
 --     start m();
-abbrev pub priorities_program : Box (Unit {0}) Global → Tree
-priorities_program box =
+abbrev pub priorities_program : Tree
+priorities_program =
     tree (codes "a" ∷ codes "x" ∷ codes "m" ∷ codes "t" ∷ codes "ok" ∷ [])
     (thread 0 (1 ∷ []) 1 (does (call.Print (value (v 1) ∷ [])) [] ∷ [])
     ∷ thread 2 [] 2 (
@@ -876,8 +876,8 @@ priorities_program box =
 
 -- a thread sets and asks the priority of another, and deletes itself
 abbrev pub Priorities : Type 0
-Priorities = (box : Box (Unit {0}) Global) →
-    dump_after (priorities_program box) (replicate 8 Step)
+Priorities =
+    dump_after priorities_program (replicate 8 Step)
     ≡ codes "events 8\n"
     ++ codes "ticks 0\n"
     ++ codes "thread 1 a priority 3 ended 0\n"
@@ -888,8 +888,8 @@ Priorities = (box : Box (Unit {0}) Global) →
 
 -- the program
 --     thread t(d) priority 1 { delay d; print d; } start t(2); start t(1); start t(2);
-abbrev pub delays_program : Box (Unit {0}) Global → Tree
-delays_program box =
+abbrev pub delays_program : Tree
+delays_program =
     tree (codes "t" ∷ codes "d" ∷ [])
     (thread 0 (1 ∷ []) 1 (does (call.Delay (v 1)) [] ∷ does (call.Print (value (v 1) ∷ [])) [] ∷ [])
     ∷ start 0 (2 ∷ [])
@@ -899,8 +899,8 @@ delays_program box =
 
 -- threads that are delayed wake in order of tick and then number
 abbrev pub Delays : Type 0
-Delays = (box : Box (Unit {0}) Global) →
-    dump_after (delays_program box) (replicate 3 Step ++ replicate 2 Tick ++ replicate 3 Step)
+Delays =
+    dump_after delays_program (replicate 3 Step ++ replicate 2 Tick ++ replicate 3 Step)
     ≡ codes "events 8\n"
     ++ codes "ticks 2\n"
     ++ codes "thread 0 t priority 1 ended 0\n"
@@ -913,16 +913,16 @@ Delays = (box : Box (Unit {0}) Global) →
 
 -- the program
 --     queue q[1] input 3;
-abbrev pub inputs_program : Box (Unit {0}) Global → Tree
-inputs_program box =
+abbrev pub inputs_program : Tree
+inputs_program =
     tree (codes "q" ∷ [])
     (queue 0 1 (Some 3)
     ∷ [])
 
 -- an input is lost where the queue is full, and where no queue has its channel
 abbrev pub Inputs : Type 0
-Inputs = (box : Box (Unit {0}) Global) →
-    dump_after (inputs_program box) (Input 3 5 ∷ [] ++ Input 3 6 ∷ [] ++ Input 4 7 ∷ [])
+Inputs =
+    dump_after inputs_program (Input 3 5 ∷ [] ++ Input 3 6 ∷ [] ++ Input 4 7 ∷ [])
     ≡ codes "events 3\n"
     ++ codes "ticks 0\n"
     ++ codes "queue q: 5\n"
@@ -933,8 +933,8 @@ Inputs = (box : Box (Unit {0}) Global) →
 --     thread a(x, p) priority 1 { let ok = 0; setprio self, p -> ok; send q, x, 4294967295 -> ok; print x, ok; }
 --     thread r() priority 0 { let ok = 0; let v = 0; waiting q -> v; print v; receive q, 0 -> ok, v; print ok, v; receive q, 0 -> ok, v; print ok, v; delete 1 -> ok; print ok; receive q, 0 -> ok, v; print ok, v; receive q, 0 -> ok, v; print ok, v; }
 --     start a(5, 1); start a(6, 1); start a(7, 2); start r();
-abbrev pub senders_wait_program : Box (Unit {0}) Global → Tree
-senders_wait_program box =
+abbrev pub senders_wait_program : Tree
+senders_wait_program =
     tree (codes "q" ∷ codes "a" ∷ codes "x" ∷ codes "p" ∷ codes "ok" ∷ codes "r" ∷ codes "v" ∷ [])
     (queue 0 1 None
     ∷ thread 1 (2 ∷ 3 ∷ []) 1 (
@@ -967,8 +967,8 @@ senders_wait_program box =
 
 -- of two senders at a full queue the urgent one is served first, though it came later
 abbrev pub SendersWait : Type 0
-SendersWait = (box : Box (Unit {0}) Global) →
-    dump_after (senders_wait_program box) (replicate 11 Step)
+SendersWait =
+    dump_after senders_wait_program (replicate 11 Step)
     ≡ codes "events 11\n"
     ++ codes "ticks 0\n"
     ++ codes "thread 0 a priority 1 ended 0\n"
@@ -985,8 +985,8 @@ SendersWait = (box : Box (Unit {0}) Global) →
 
 -- the same, up to the end
 abbrev pub SendersServed : Type 0
-SendersServed = (box : Box (Unit {0}) Global) →
-    dump_after (senders_wait_program box) (replicate 30 Step)
+SendersServed =
+    dump_after senders_wait_program (replicate 30 Step)
     ≡ codes "events 30\n"
     ++ codes "ticks 0\n"
     ++ codes "thread 0 a priority 1 ended 0\n"
@@ -1010,8 +1010,8 @@ SendersServed = (box : Box (Unit {0}) Global) →
 --     thread t(x) priority 3 { let ok = 0; take s, 9 -> ok; print x, ok; }
 --     thread g() priority 1 { let ok = 0; setprio 0, 2 -> ok; print ok; setprio 0, 8 -> ok; print ok; getprio 7 -> ok; print ok; give s -> ok; give s -> ok; give s -> ok; give s -> ok; give s -> ok; print ok; yield; now -> ok; print ok; }
 --     start t(1); start t(2); start g();
-abbrev pub takers_wait_program : Box (Unit {0}) Global → Tree
-takers_wait_program box =
+abbrev pub takers_wait_program : Tree
+takers_wait_program =
     tree (codes "s" ∷ codes "t" ∷ codes "x" ∷ codes "ok" ∷ codes "g" ∷ [])
     (semaphore 0 0 2
     ∷ thread 1 (2 ∷ []) 3 (
@@ -1044,8 +1044,8 @@ takers_wait_program box =
 
 -- a waiter whose priority falls is served later, and a given word goes to a taker before the count rises
 abbrev pub TakersWait : Type 0
-TakersWait = (box : Box (Unit {0}) Global) →
-    dump_after (takers_wait_program box) (replicate 6 Step ++ replicate 3 Tick ++ replicate 20 Step)
+TakersWait =
+    dump_after takers_wait_program (replicate 6 Step ++ replicate 3 Tick ++ replicate 20 Step)
     ≡ codes "events 29\n"
     ++ codes "ticks 3\n"
     ++ codes "thread 0 t priority 2 ended 0\n"
@@ -1065,8 +1065,8 @@ TakersWait = (box : Box (Unit {0}) Global) →
 --     semaphore s = 0 max 2;
 --     thread t(x, d) priority 3 { let ok = 5; take s, d -> ok; print x, ok; }
 --     start t(1, 2); start t(2, 1); start t(3, 2); start t(4, 0); start t(5, 4294967294);
-abbrev pub takers_time_out_program : Box (Unit {0}) Global → Tree
-takers_time_out_program box =
+abbrev pub takers_time_out_program : Tree
+takers_time_out_program =
     tree (codes "s" ∷ codes "t" ∷ codes "x" ∷ codes "d" ∷ codes "ok" ∷ [])
     (semaphore 0 0 2
     ∷ thread 1 (2 ∷ 3 ∷ []) 3 (
@@ -1083,8 +1083,8 @@ takers_time_out_program box =
 
 -- waits end at their tick, in order of number
 abbrev pub TakersTimeOut : Type 0
-TakersTimeOut = (box : Box (Unit {0}) Global) →
-    dump_after (takers_time_out_program box) (replicate 6 Step ++ replicate 2 Tick ++ replicate 3 Step)
+TakersTimeOut =
+    dump_after takers_time_out_program (replicate 6 Step ++ replicate 2 Tick ++ replicate 3 Step)
     ≡ codes "events 11\n"
     ++ codes "ticks 2\n"
     ++ codes "thread 0 t priority 3 ended 0\n"
@@ -1104,8 +1104,8 @@ TakersTimeOut = (box : Box (Unit {0}) Global) →
 --     type T { v } object o: T;
 --     thread t() priority 1 { let x = 7; atomic { let i = 0; while i < 63 { o.v = i; i = i + 1; } x.T.v = o.v; } }
 --     start t();
-abbrev pub operation_before_reference_program : Box (Unit {0}) Global → Tree
-operation_before_reference_program box =
+abbrev pub operation_before_reference_program : Tree
+operation_before_reference_program =
     tree (codes "T" ∷ codes "v" ∷ codes "o" ∷ codes "t" ∷ codes "x" ∷ codes "i" ∷ [])
     (kind 0 (1 ∷ [])
     ∷ object 2 0
@@ -1113,7 +1113,7 @@ operation_before_reference_program box =
     declare 4 (n 7)
     ∷ atomic [] (
     tdeclare 5 (n 0)
-    ∷ trepeat (binary box (v 5) op.Less (n 63)) (store (static_field 2 1) (v 5) ∷ tassign 5 (binary box (v 5) op.Plus (n 1)) ∷ [])
+    ∷ trepeat (binary (v 5) op.Less (n 63)) (store (static_field 2 1) (v 5) ∷ tassign 5 (binary (v 5) op.Plus (n 1)) ∷ [])
     ∷ store (field_through 4 0 1) (expr.Field (static_field 2 1))
     ∷ [])
     ∷ [])
@@ -1122,8 +1122,8 @@ operation_before_reference_program box =
 
 -- after 63 operations a store reads a field first, and is then one operation too many before its reference is bad
 abbrev pub OperationBeforeReference : Type 0
-OperationBeforeReference = (box : Box (Unit {0}) Global) →
-    dump_after (operation_before_reference_program box) (Step ∷ [])
+OperationBeforeReference =
+    dump_after operation_before_reference_program (Step ∷ [])
     ≡ codes "events 1\n"
     ++ codes "ticks 0\n"
     ++ codes "thread 0 t priority 1 ended 2\n"
@@ -1134,8 +1134,8 @@ OperationBeforeReference = (box : Box (Unit {0}) Global) →
 --     type T { v } type U { a, b } object o: T; object u: U;
 --     thread t() priority 1 { let ok = 0; let x = 2; let y = 4; atomic -> ok, x { y.U.b = x.T.v + 3; give y.U.b; } print ok, x; atomic -> ok { y.T.v = 1; } }
 --     start t();
-abbrev pub bad_reference_program : Box (Unit {0}) Global → Tree
-bad_reference_program box =
+abbrev pub bad_reference_program : Tree
+bad_reference_program =
     tree (codes "T" ∷ codes "v" ∷ codes "U" ∷ codes "a" ∷ codes "b" ∷ codes "o" ∷ codes "u" ∷ codes "t" ∷ codes "ok" ∷ codes "x" ∷ codes "y" ∷ [])
     (kind 0 (1 ∷ [])
     ∷ kind 2 (3 ∷ 4 ∷ [])
@@ -1146,7 +1146,7 @@ bad_reference_program box =
     ∷ declare 9 (n 2)
     ∷ declare 10 (n 4)
     ∷ atomic (8 ∷ 9 ∷ []) (
-    store (field_through 10 2 4) (binary box (expr.Field (field_through 9 0 1)) op.Plus (n 3))
+    store (field_through 10 2 4) (binary (expr.Field (field_through 9 0 1)) op.Plus (n 3))
     ∷ gives ((expr.Field (field_through 10 2 4)) ∷ [])
     ∷ [])
     ∷ does (call.Print (value (v 8) ∷ value (v 9) ∷ [])) []
@@ -1157,8 +1157,8 @@ bad_reference_program box =
 
 -- a reference to an object of another type is bad
 abbrev pub BadReference : Type 0
-BadReference = (box : Box (Unit {0}) Global) →
-    dump_after (bad_reference_program box) (replicate 3 Step)
+BadReference =
+    dump_after bad_reference_program (replicate 3 Step)
     ≡ codes "events 3\n"
     ++ codes "ticks 0\n"
     ++ codes "thread 0 t priority 1 ended 3\n"
@@ -1170,8 +1170,8 @@ BadReference = (box : Box (Unit {0}) Global) →
 -- the program
 --     thread t() priority 1 { let ok = 0; let x = 0; atomic -> ok, x { let i = 0; let a = 0; let b = 0; while i < 3332 { i = i + 1; } give i; } print ok, x; }
 --     start t();
-abbrev pub as_many_moves_as_allowed_program : Box (Unit {0}) Global → Tree
-as_many_moves_as_allowed_program box =
+abbrev pub as_many_moves_as_allowed_program : Tree
+as_many_moves_as_allowed_program =
     tree (codes "t" ∷ codes "ok" ∷ codes "x" ∷ codes "i" ∷ codes "a" ∷ codes "b" ∷ [])
     (thread 0 [] 1 (
     declare 1 (n 0)
@@ -1180,7 +1180,7 @@ as_many_moves_as_allowed_program box =
     tdeclare 3 (n 0)
     ∷ tdeclare 4 (n 0)
     ∷ tdeclare 5 (n 0)
-    ∷ trepeat (binary box (v 3) op.Less (n 3332)) (tassign 3 (binary box (v 3) op.Plus (n 1)) ∷ [])
+    ∷ trepeat (binary (v 3) op.Less (n 3332)) (tassign 3 (binary (v 3) op.Plus (n 1)) ∷ [])
     ∷ gives ((v 3) ∷ [])
     ∷ [])
     ∷ does (call.Print (value (v 1) ∷ value (v 2) ∷ [])) []
@@ -1190,8 +1190,8 @@ as_many_moves_as_allowed_program box =
 
 -- a block of 10,000 moves
 abbrev pub AsManyMovesAsAllowed : Type 0
-AsManyMovesAsAllowed = (box : Box (Unit {0}) Global) →
-    dump_after (as_many_moves_as_allowed_program box) (replicate 2 Step)
+AsManyMovesAsAllowed =
+    dump_after as_many_moves_as_allowed_program (replicate 2 Step)
     ≡ codes "events 2\n"
     ++ codes "ticks 0\n"
     ++ codes "thread 0 t priority 1 ready\n"
@@ -1202,8 +1202,8 @@ AsManyMovesAsAllowed = (box : Box (Unit {0}) Global) →
 -- the program
 --     thread t() priority 1 { let ok = 0; let x = 0; atomic -> ok, x { let i = 0; let a = 0; let b = 0; let c = 0; while i < 3332 { i = i + 1; } give i; } print ok, x; }
 --     start t();
-abbrev pub one_move_too_many_program : Box (Unit {0}) Global → Tree
-one_move_too_many_program box =
+abbrev pub one_move_too_many_program : Tree
+one_move_too_many_program =
     tree (codes "t" ∷ codes "ok" ∷ codes "x" ∷ codes "i" ∷ codes "a" ∷ codes "b" ∷ codes "c" ∷ [])
     (thread 0 [] 1 (
     declare 1 (n 0)
@@ -1213,7 +1213,7 @@ one_move_too_many_program box =
     ∷ tdeclare 4 (n 0)
     ∷ tdeclare 5 (n 0)
     ∷ tdeclare 6 (n 0)
-    ∷ trepeat (binary box (v 3) op.Less (n 3332)) (tassign 3 (binary box (v 3) op.Plus (n 1)) ∷ [])
+    ∷ trepeat (binary (v 3) op.Less (n 3332)) (tassign 3 (binary (v 3) op.Plus (n 1)) ∷ [])
     ∷ gives ((v 3) ∷ [])
     ∷ [])
     ∷ does (call.Print (value (v 1) ∷ value (v 2) ∷ [])) []
@@ -1223,8 +1223,8 @@ one_move_too_many_program box =
 
 -- a block with one move more
 abbrev pub OneMoveTooMany : Type 0
-OneMoveTooMany = (box : Box (Unit {0}) Global) →
-    dump_after (one_move_too_many_program box) (replicate 2 Step)
+OneMoveTooMany =
+    dump_after one_move_too_many_program (replicate 2 Step)
     ≡ codes "events 2\n"
     ++ codes "ticks 0\n"
     ++ codes "thread 0 t priority 1 ended 1\n"
@@ -1241,12 +1241,12 @@ OneMoveTooMany = (box : Box (Unit {0}) Global) →
 --       print "no";
 --     }
 --     start t(5);
-abbrev pub moves_program : Box (Unit {0}) Global → Tree
-moves_program box =
+abbrev pub moves_program : Tree
+moves_program =
     tree (codes "less" ∷ codes "a" ∷ codes "b" ∷ codes "c" ∷ codes "most" ∷ codes "t" ∷ codes "k" ∷ codes "i" ∷ codes "m" ∷ codes "j" ∷ codes "z" ∷ [])
     (function 0 (1 ∷ 2 ∷ []) (
     while_ (n 1) (
-    declare 3 (binary box (v 1) op.Less (v 2))
+    declare 3 (binary (v 1) op.Less (v 2))
     ∷ either (v 3) (leave ∷ []) (answer (Some (n 0)) ∷ [])
     ∷ [])
     ∷ answer (Some (n 1))
@@ -1260,15 +1260,15 @@ moves_program box =
     ∷ thread 5 (6 ∷ []) 1 (
     declare 7 (n 0)
     ∷ declare 8 (n 0)
-    ∷ while_ (binary box (v 7) op.Less (v 6)) (
-    declare 9 (binary box (v 7) op.Times (binary box (v 6) op.Minus (v 7)))
+    ∷ while_ (binary (v 7) op.Less (v 6)) (
+    declare 9 (binary (v 7) op.Times (binary (v 6) op.Minus (v 7)))
     ∷ apply_to 8 4 ((v 8) ∷ (v 9) ∷ [])
-    ∷ when (binary box (v 7) op.Same (n 3)) (declare 10 (n 9) ∷ leave ∷ [])
-    ∷ assign 7 (binary box (v 7) op.Plus (n 1))
+    ∷ when (binary (v 7) op.Same (n 3)) (declare 10 (n 9) ∷ leave ∷ [])
+    ∷ assign 7 (binary (v 7) op.Plus (n 1))
     ∷ [])
-    ∷ does (call.Print (value (v 7) ∷ text (codes ",") ∷ value (v 8) ∷ text (codes ",") ∷ value (binary box (unary box op.Flip (n 0)) op.Xor (binary box (binary box (n 5) op.And (n 6)) op.Or (n 8))) ∷ value (unary box op.Not (v 6)) ∷ value (binary box (v 6) op.AtLeast (n 5)) ∷ [])) []
-    ∷ does (call.Print (value (binary box (v 6) op.Other (n 5)) ∷ value (binary box (v 6) op.AtMost (n 4)) ∷ value (binary box (n 9) op.Right (n 1)) ∷ value (binary box (n 2) op.More (n 1)) ∷ [])) []
-    ∷ when (binary box (v 6) op.Same (n 5)) (answer None ∷ [])
+    ∷ does (call.Print (value (v 7) ∷ text (codes ",") ∷ value (v 8) ∷ text (codes ",") ∷ value (binary (unary op.Flip (n 0)) op.Xor (binary (binary (n 5) op.And (n 6)) op.Or (n 8))) ∷ value (unary op.Not (v 6)) ∷ value (binary (v 6) op.AtLeast (n 5)) ∷ [])) []
+    ∷ does (call.Print (value (binary (v 6) op.Other (n 5)) ∷ value (binary (v 6) op.AtMost (n 4)) ∷ value (binary (n 9) op.Right (n 1)) ∷ value (binary (n 2) op.More (n 1)) ∷ [])) []
+    ∷ when (binary (v 6) op.Same (n 5)) (answer None ∷ [])
     ∷ does (call.Print (text (codes "no") ∷ [])) []
     ∷ [])
     ∷ start 5 (5 ∷ [])
@@ -1276,8 +1276,8 @@ moves_program box =
 
 -- calls, branches, loops and the scopes of locals
 abbrev pub Moves : Type 0
-Moves = (box : Box (Unit {0}) Global) →
-    dump_after (moves_program box) (replicate 3 Step)
+Moves =
+    dump_after moves_program (replicate 3 Step)
     ≡ codes "events 3\n"
     ++ codes "ticks 0\n"
     ++ codes "thread 0 t priority 1 ended 0\n"
@@ -1292,8 +1292,8 @@ Moves = (box : Box (Unit {0}) Global) →
 --       atomic -> ok { free p; free r; } atomic -> ok, p, r, q { let x = new B; let y = new A; let z = new A; z.A.a = 7; give x, y, z; } print p, " ", r, " ", q;
 --       if ok { atomic -> ok { o.a = q; abort; } } delete self; }
 --     start t();
-abbrev pub places_program : Box (Unit {0}) Global → Tree
-places_program box =
+abbrev pub places_program : Tree
+places_program =
     tree (codes "A" ∷ codes "a" ∷ codes "B" ∷ codes "b" ∷ codes "c" ∷ codes "o" ∷ codes "t" ∷ codes "ok" ∷ codes "p" ∷ codes "r" ∷ codes "q" ∷ codes "x" ∷ codes "y" ∷ codes "z" ∷ [])
     (kind 0 (1 ∷ [])
     ∷ kind 2 (1 ∷ 3 ∷ 4 ∷ [])
@@ -1327,8 +1327,8 @@ places_program box =
 
 -- freed places are used again, the least one first
 abbrev pub Places : Type 0
-Places = (box : Box (Unit {0}) Global) →
-    dump_after (places_program box) (replicate 6 Step)
+Places =
+    dump_after places_program (replicate 6 Step)
     ≡ codes "events 6\n"
     ++ codes "ticks 0\n"
     ++ codes "thread 0 t priority 1 ready\n"

@@ -27,18 +27,7 @@ both-true false b e = absurd (false≢true e)
 -- kinds are small
 call-few : (c : Call) → kind_of_call c < 256
 call-few (call.Print items) = omega arith
-call-few (call.Spawn template arguments) = omega arith
-call-few (call.Delete whom) = omega arith
-call-few (call.Delay ticks) = omega arith
-call-few (call.Setprio whom priority) = omega arith
-call-few (call.Getprio whom) = omega arith
-call-few (call.Send queue value limit) = omega arith
-call-few (call.Receive queue limit) = omega arith
-call-few (call.Take semaphore limit) = omega arith
-call-few (call.Give semaphore) = omega arith
-call-few call.Now = omega arith
-call-few call.Yield = omega arith
-call-few (call.Waiting queue) = omega arith
+call-few c = omega arith
 
 -- the kind of an action, if there is one
 abbrev kind_in : Option Action → ℕ

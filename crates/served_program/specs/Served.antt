@@ -1,7 +1,7 @@
 -- Which accepted programs `run` serves so far. What else the language has counts also where it never runs.
 use Rattle.std.specs.Prelude.{ℕ, ◌==◌, nat_le, ◌&&◌, Bool, true, false, length, Option, Some, None}
 use Rattle.std.specs.List.{list_all}
-use Rattle.thread_tree.specs.declared.expr.Expr.{Expr}
+use Rattle.thread_tree.specs.declared.expr.Expr.{Expr, more_of-Expr, end_of-Expr}
 use Rattle.thread_tree.specs.declared.expr.Expr.TheVariants as expr
 use Rattle.thread_tree.specs.declared.expr.FieldOf.{FieldOf}
 use Rattle.thread_tree.specs.declared.expr.FieldOf.TheVariants as field
@@ -30,8 +30,8 @@ abbrev pub is_served_expr : Expr → Bool
 is_served_expr (expr.Num value) = true
 is_served_expr (expr.Local at) = true
 is_served_expr (expr.Field f) = is_served_field f
-is_served_expr (expr.Prefix' op p e) = is_served_expr e
-is_served_expr (expr.Binary' op p x q y) = is_served_expr x && is_served_expr y
+is_served_expr (expr.Prefix' op p (more_of-Expr e end_of-Expr)) = is_served_expr e
+is_served_expr (expr.Binary' op p (more_of-Expr x end_of-Expr) q (more_of-Expr y end_of-Expr)) = is_served_expr x && is_served_expr y
 
 -- a block that may be left out, and passes the test where it isn't
 abbrev pub if_some : {B : Type 0} → (B → Bool) → Option B → Bool
@@ -67,18 +67,7 @@ is_served_tblock = fold-TBlock Bool Bool (is_served_tlayer (λ served. served)) 
 -- a call: a print, and no other
 abbrev pub is_served_call : Call → Bool
 is_served_call (call.Print items) = true
-is_served_call (call.Spawn template arguments) = false
-is_served_call (call.Delete whom) = false
-is_served_call (call.Delay ticks) = false
-is_served_call (call.Setprio whom priority) = false
-is_served_call (call.Getprio whom) = false
-is_served_call (call.Send queue value limit) = false
-is_served_call (call.Receive queue limit) = false
-is_served_call (call.Take semaphore limit) = false
-is_served_call (call.Give semaphore) = false
-is_served_call call.Now = false
-is_served_call call.Yield = false
-is_served_call (call.Waiting queue) = false
+is_served_call _ = false
 
 -- a statement, by its layer, where `block` is the test of the blocks in it: no persistent loop
 abbrev pub is_served_layer : {S B : Type 0} → (B → Bool) → Stmt-F S B → Bool

@@ -109,18 +109,7 @@ ends K t given (Fault code) h = stops K t code h
 -- a served call
 calls : (p : Program) (K : State) (t : ℕ) (locals : List Local) (c : Call) → IsTrue (is_served_call c) → IsServedKernel K → IsServedKernel (settled t (effect_of_call p K t locals c))
 calls p K t locals (call.Print items) is h = prints K t (printed_line locals items) h
-calls p K t locals (call.Spawn template arguments) is h = absurd (false≢true is)
-calls p K t locals (call.Delete whom) is h = absurd (false≢true is)
-calls p K t locals (call.Delay ticks) is h = absurd (false≢true is)
-calls p K t locals (call.Setprio whom priority) is h = absurd (false≢true is)
-calls p K t locals (call.Getprio whom) is h = absurd (false≢true is)
-calls p K t locals (call.Send queue value limit) is h = absurd (false≢true is)
-calls p K t locals (call.Receive queue limit) is h = absurd (false≢true is)
-calls p K t locals (call.Take semaphore limit) is h = absurd (false≢true is)
-calls p K t locals (call.Give semaphore) is h = absurd (false≢true is)
-calls p K t locals call.Now is h = absurd (false≢true is)
-calls p K t locals call.Yield is h = absurd (false≢true is)
-calls p K t locals (call.Waiting queue) is h = absurd (false≢true is)
+calls p K t locals c is h = absurd (false≢true is)
 
 -- a served action
 acts : (p : Program) (K : State) (t : ℕ) (locals : List Local) (x : Stmt-F Stmt Block) → IsTrue (is_served_action x) → IsServedKernel K → IsServedKernel (settled t (effect_of_layer p K t locals x))

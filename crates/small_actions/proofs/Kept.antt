@@ -124,18 +124,7 @@ call_small : (names : Names) (scope : Scope) (c : Call) → call_rule names scop
 unfolding call_rule
 call_small names scope (call.Print items) kept =
     let few : 0 + length items ≤ 8 = items_counted names scope 0 items (omega arith) kept in omega arith
-call_small names scope (call.Spawn template arguments) kept = tt
-call_small names scope (call.Delete whom) kept = tt
-call_small names scope (call.Delay ticks) kept = tt
-call_small names scope (call.Setprio whom priority) kept = tt
-call_small names scope (call.Getprio whom) kept = tt
-call_small names scope (call.Send queue value limit) kept = tt
-call_small names scope (call.Receive queue limit) kept = tt
-call_small names scope (call.Take semaphore limit) kept = tt
-call_small names scope (call.Give semaphore) kept = tt
-call_small names scope call.Now kept = tt
-call_small names scope call.Yield kept = tt
-call_small names scope (call.Waiting queue) kept = tt
+call_small names scope c kept = tt
 
 -- the names after `->` fit where there are some
 takers_fit : (names : Names) (scope : Scope) (to : List At) → takers names scope (nat_le (length to) 4) to ≡ Ok tt → length to ≤ 4

@@ -65,18 +65,7 @@ pub record IsSmallBlock (to : List At) (body : TBlock) : Type 0 where
 -- a print has few items
 abbrev pub IsSmallCall : Call → Type 0
 IsSmallCall (call.Print items) = length items ≤ 8
-IsSmallCall (call.Spawn template arguments) = ⊤
-IsSmallCall (call.Delete whom) = ⊤
-IsSmallCall (call.Delay ticks) = ⊤
-IsSmallCall (call.Setprio whom priority) = ⊤
-IsSmallCall (call.Getprio whom) = ⊤
-IsSmallCall (call.Send queue value limit) = ⊤
-IsSmallCall (call.Receive queue limit) = ⊤
-IsSmallCall (call.Take semaphore limit) = ⊤
-IsSmallCall (call.Give semaphore) = ⊤
-IsSmallCall call.Now = ⊤
-IsSmallCall call.Yield = ⊤
-IsSmallCall (call.Waiting queue) = ⊤
+IsSmallCall _ = ⊤
 
 -- a small action; a statement that is no action is small
 abbrev pub IsSmallAction : Stmt-F Stmt Block → Type 0

@@ -1,8 +1,9 @@
-// A tree whose canonical text was written by hand: the clause says that the definition gives that text.
-ghost use Rattle.text_rows.specs.WorkedTexts.{SumOfProduct};
+// Trees whose canonical texts were written by hand: the clauses say that the definition gives those texts.
+ghost use Rattle.text_rows.specs.WorkedTexts.{CallsWithPieces, SumOfProduct};
 
 fn worked_by_hand()
     ensures sum_of_product { SumOfProduct }
+    ensures calls_with_pieces { CallsWithPieces }
 {}
 
 #[test]

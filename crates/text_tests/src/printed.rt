@@ -1,6 +1,6 @@
 // The canonical text of a program.
 use crate::fixtures::tree_of;
-use thread_text::print_tree;
+use thread_print::print_tree;
 
 // A text with fewer spaces and parentheses, read and printed.
 #[test]

@@ -2,6 +2,7 @@ pub mod Callers
 mod Steps
 mod TransactionLaws
 mod StatementLaws
+mod ExpressionLaws
 mod FewLaws
 mod ProgramLaws
 mod Induction

@@ -3,13 +3,16 @@ use Rattle.std.specs.Prelude.{ℕ, ◌+◌, Bool, if◌then◌else◌, List, [],
 use Rattle.thread_tree.specs.declared.place.Place.{Place}
 use Rattle.thread_tree.specs.declared.place.At.{At}
 use Rattle.thread_tree.specs.declared.action.Call.{Call}
-use Rattle.thread_tree.specs.declared.action.Call.TheVariants as call
 use Rattle.thread_tree.specs.declared.action.Item.{Item}
 use Rattle.thread_tree.specs.declared.action.Item.TheVariants as item
 use Rattle.thread_tree.specs.declared.action.Who.{Who}
 use Rattle.thread_tree.specs.declared.action.Who.TheVariants as who
+use Rattle.thread_tree.specs.declared.needed.Needed.{Needed}
+use Rattle.thread_tree.specs.declared.needed.Needed.TheVariants.{Queue, Semaphore}
+use Rattle.thread_tree.specs.Pieces.{Piece, named, valued, whom, itemized, applied, pieces}
 use Rattle.thread_check.specs.declared.fault.Kind.TheVariants as kind
 use Rattle.thread_check.specs.declared.fault.CheckFault.TheVariants.{TwiceNamed, WrongCount}
+use Rattle.thread_check.specs.declared.sort.Sort.{Sort}
 use Rattle.thread_check.specs.declared.sort.Sort.TheVariants as sort
 use Rattle.thread_check.specs.Verdict.{Verdict, fine, ◌>>◌, same_count, within_limit, stands_at}
 use Rattle.thread_check.specs.Scope.{Scope}
@@ -60,22 +63,28 @@ abbrev pub items_rule : Names → Scope → ℕ → List Item → Verdict
 items_rule names scope before [] = fine
 items_rule names scope before (i ∷ is) = item_rule names scope (before + 1) i >> items_rule names scope (before + 1) is
 
+-- the sort of a name that has to be declared so
+abbrev pub sort_of : Needed → Sort
+sort_of Queue = sort.Queue
+sort_of Semaphore = sort.Semaphore
+
+-- a piece of a call
+abbrev pub piece_rule : Names → Scope → Piece → Verdict
+piece_rule names scope (named needed name) = used names scope (sort_of needed) name
+piece_rule names scope (valued e) = expression names scope e
+piece_rule names scope (whom w) = who_rule names scope w
+piece_rule names scope (itemized items) = items_rule names scope 0 items
+piece_rule names scope (applied template arguments) =
+    used names scope sort.Thread template
+    >> same_count template.place (arity names template.name) (length arguments)
+    >> expressions names scope arguments
+
+-- pieces one after another
+abbrev pub pieces_rule : Names → Scope → List Piece → Verdict
+pieces_rule names scope [] = fine
+pieces_rule names scope (p ∷ []) = piece_rule names scope p
+pieces_rule names scope (p ∷ q ∷ ps) = piece_rule names scope p >> pieces_rule names scope (q ∷ ps)
+
 -- a call without the names that take its results
 unfoldable pub call_rule : Names → Scope → Call → Verdict
-call_rule names scope (call.Print items) = items_rule names scope 0 items
-call_rule names scope (call.Spawn thread arguments) =
-    used names scope sort.Thread thread
-    >> same_count thread.place (arity names thread.name) (length arguments)
-    >> expressions names scope arguments
-call_rule names scope (call.Delete whom) = who_rule names scope whom
-call_rule names scope (call.Delay ticks) = expression names scope ticks
-call_rule names scope (call.Setprio whom priority) = who_rule names scope whom >> expression names scope priority
-call_rule names scope (call.Getprio whom) = who_rule names scope whom
-call_rule names scope (call.Send queue value limit) =
-    used names scope sort.Queue queue >> expression names scope value >> expression names scope limit
-call_rule names scope (call.Receive queue limit) = used names scope sort.Queue queue >> expression names scope limit
-call_rule names scope (call.Take semaphore limit) = used names scope sort.Semaphore semaphore >> expression names scope limit
-call_rule names scope (call.Give semaphore) = used names scope sort.Semaphore semaphore
-call_rule names scope call.Now = fine
-call_rule names scope call.Yield = fine
-call_rule names scope (call.Waiting queue) = used names scope sort.Queue queue
+call_rule names scope c = pieces_rule names scope (pieces c)

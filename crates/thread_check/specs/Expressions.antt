@@ -1,7 +1,7 @@
 -- The rules for expressions.
 use Rattle.std.specs.Prelude.{Bool, if◌then◌else◌, List, [], ◌∷◌, Err}
 use Rattle.thread_tree.specs.declared.place.At.{At}
-use Rattle.thread_tree.specs.declared.expr.Expr.{Expr}
+use Rattle.thread_tree.specs.declared.expr.Expr.{Expr, more_of-Expr, end_of-Expr}
 use Rattle.thread_tree.specs.declared.expr.Expr.TheVariants as expr
 use Rattle.thread_tree.specs.declared.expr.FieldOf.{FieldOf}
 use Rattle.thread_tree.specs.declared.expr.FieldOf.TheVariants as field
@@ -28,8 +28,8 @@ abbrev pub expression : Names → Scope → Expr → Verdict
 expression names scope (expr.Num value) = fine
 expression names scope (expr.Local at) = used names scope sort.Local at
 expression names scope (expr.Field f) = field_rule names scope f
-expression names scope (expr.Prefix' op p e) = expression names scope e
-expression names scope (expr.Binary' op p x q y) = expression names scope x >> expression names scope y
+expression names scope (expr.Prefix' op p (more_of-Expr e end_of-Expr)) = expression names scope e
+expression names scope (expr.Binary' op p (more_of-Expr x end_of-Expr) q (more_of-Expr y end_of-Expr)) = expression names scope x >> expression names scope y
 
 -- expressions from left to right
 abbrev pub expressions : Names → Scope → List Expr → Verdict

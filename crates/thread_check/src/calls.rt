@@ -1,13 +1,14 @@
 ghost use Rattle.std.specs.Prelude.{◌≡◌, ◌+◌, ◌≤◌, ◌<◌, ◌==◌, ◌∷◌, [], length, take, drop, OnOk};
 ghost use Rattle.thread_tree.specs.Kinds.{result_count, kind_of_call};
-ghost use Rattle.thread_check.specs.Calls.{once, further_taker, further_takers, takers, who_rule, counted_item, item_rule, items_rule, call_rule};
+ghost use Rattle.thread_check.specs.Calls.{once, further_taker, further_takers, takers, who_rule, counted_item, item_rule, items_rule, piece_rule, call_rule};
+ghost use Rattle.thread_tree.specs.Pieces.{piece_seen};
 
 use crate::fault::{CheckFault, Kind};
 use crate::names::{Names, is_among_first};
 use crate::scope::Scope;
 use crate::sort::Sort;
 use crate::uses::{same_count, stands_at, within_limit};
-use thread_tree::{At, Call, Item, List, Place, Who};
+use thread_tree::{At, Call, Few, Item, List, Needed, Piece, Place, Who, pieces};
 
 /// How many results a call has.
 pub(crate) fn results(call: &Call) -> usize
@@ -147,42 +148,54 @@ impl<'a> Names<'a> {
         Ok(())
     }
 
+    /// A piece of a call.
+    fn piece(&self, scope: &Scope, piece: Piece<'_>) -> Result<(), CheckFault>
+        ensures { result ≡ piece_rule self.now scope.now (piece_seen piece.entry) }
+    {
+        match piece {
+            Piece::Name(Needed::Queue, name) => self.used(scope, Sort::Queue, name),
+            Piece::Name(Needed::Semaphore, name) => self.used(scope, Sort::Semaphore, name),
+            Piece::Value(e) => self.expression(scope, e),
+            Piece::Whom(whom) => self.who(scope, whom),
+            Piece::Items(items) => self.items(scope, items),
+            Piece::Application(template, arguments) => {
+                self.used(scope, Sort::Thread, template)?;
+                same_count(template.place, self.arity(template.name), arguments.len())?;
+                self.expressions(scope, arguments)
+            }
+        }
+    }
+
     /// A call without the names that take its results.
     #[tactic(auto, unfolding(crate::specs::Calls::call_rule))]
     pub(crate) fn call(&self, scope: &Scope, call: &Call) -> Result<(), CheckFault>
         ensures { result ≡ call_rule self.now scope.now call.now }
     {
-        match call {
-            Call::Print(items) => self.items(scope, items),
-            Call::Spawn(thread, arguments) => {
-                self.used(scope, Sort::Thread, *thread)?;
-                same_count(thread.place, self.arity(thread.name), arguments.len())?;
-                self.expressions(scope, arguments)
+        match pieces(call) {
+            Few::Zero => Ok(()),
+            Few::One(a) => self.piece(scope, a),
+            Few::Two(a, b) => {
+                self.piece(scope, a)?;
+                self.piece(scope, b)
             }
-            Call::Delete(whom) => self.who(scope, whom),
-            Call::Delay(ticks) => self.expression(scope, ticks),
-            Call::Setprio(whom, priority) => {
-                self.who(scope, whom)?;
-                self.expression(scope, priority)
+            Few::Three(a, b, c) => {
+                self.piece(scope, a)?;
+                self.piece(scope, b)?;
+                self.piece(scope, c)
             }
-            Call::Getprio(whom) => self.who(scope, whom),
-            Call::Send(queue, value, limit) => {
-                self.used(scope, Sort::Queue, *queue)?;
-                self.expression(scope, value)?;
-                self.expression(scope, limit)
+            Few::Four(a, b, c, d) => {
+                self.piece(scope, a)?;
+                self.piece(scope, b)?;
+                self.piece(scope, c)?;
+                self.piece(scope, d)
             }
-            Call::Receive(queue, limit) => {
-                self.used(scope, Sort::Queue, *queue)?;
-                self.expression(scope, limit)
+            Few::Five(a, b, c, d, e) => {
+                self.piece(scope, a)?;
+                self.piece(scope, b)?;
+                self.piece(scope, c)?;
+                self.piece(scope, d)?;
+                self.piece(scope, e)
             }
-            Call::Take(semaphore, limit) => {
-                self.used(scope, Sort::Semaphore, *semaphore)?;
-                self.expression(scope, limit)
-            }
-            Call::Give(semaphore) => self.used(scope, Sort::Semaphore, *semaphore),
-            Call::Now => Ok(()),
-            Call::Yield => Ok(()),
-            Call::Waiting(queue) => self.used(scope, Sort::Queue, *queue),
         }
     }
 }

@@ -1,45 +1,45 @@
 -- The table's rows for declarations, as the parser's functions use them.
-use Rattle.std.proofs.Common.{◌≡◌, ◌<◌, ◌≤◌, ◌+◌, ℕ, List, [], ◌∷◌, ◌++◌, Option, Some, None, IsSome, refl, ap, ◌∙◌, sym, subst, Bool, true, false, cond}
+use Rattle.std.proofs.Common.{◌≡◌, List, [], ◌∷◌, Option, Some, None, IsSome, refl, ap, ◌∙◌, true, false}
 use Rattle.thread_tree.specs.declared.token.Mark.TheVariants as mark
 use Rattle.thread_tree.specs.declared.token.Token.{Token}
 use Rattle.thread_tree.specs.declared.token.Token.TheVariants as token
 use Rattle.thread_tree.specs.declared.token.Word.TheVariants as word
-use Rattle.thread_tree.specs.Grammar.{turn, call_end, declared, declared_by, statement, stated_by, tstatement, transacted_by, is_mark, is_word, is_name, is_number, is_text, is_between, mark_number, word_number}
-use Rattle.thread_tree.specs.Parts.{Part, TheMark, TheWord, AName, ANumber, MoreNames, Channel, Parameters, Numbers, MoreNumbers, ABlock, Statements, Otherwise, AfterName, Assigned, AfterAssigned, Returned, AtomicTo, To, AnItem, MoreItems, Arguments, MoreExpressions, AWho, ATBlock, TStatements, TOtherwise, AfterTName, TAssigned, MoreField, Values, Expression, Inner, After}
-use Rattle.thread_text.specs.Bounds.{Counts, counted, own_counts, open_counts, close_counts, operand_counts}
-use Rattle.thread_text.specs.Fate.{Reading, Fate, StuckAt, judged, ahead, next, next_is, next_of, sees, sees_word, skipped, counting, begun}
-use Rattle.thread_text.specs.Kinds.{word_in, name_in, text_in}
-use Rattle.thread_text.proofs.Steps.{begins_takes, begins_stuck, ahead_takes, ahead_alike, seen, unseen, of_next, not_next, counting_same}
-use Rattle.thread_text.proofs.ExpressionRows.{mark_row, word_row, then_alike}
-use Rattle.thread_text.proofs.BlockRows.{word_there}
+use Rattle.thread_tree.specs.Grammar.{turn, call_end, declared, declared_by, statement, stated_by, tstatement, transacted_by, is_mark, is_word, is_name, is_number, is_text, mark_number, word_number}
+use Rattle.thread_tree.specs.Parts.{Part, TheMark, TheWord, AName, ANumber, MoreNames, Channel, Parameters, Numbers, ABlock}
+use Rattle.thread_text.specs.Bounds.{counted, own_counts, open_counts, close_counts}
+use Rattle.thread_text.specs.Fate.{Reading, StuckAt, ahead, next, next_of, sees_word, skipped}
+use Rattle.thread_text.specs.Kinds.{word_in}
+use Rattle.thread_text.proofs.Steps.{begins_takes, begins_stuck, ahead_alike, unseen, not_next, counting_same}
+use Rattle.thread_text.proofs.ExpressionRows.{word_row}
+use Rattle.thread_text.proofs.Taken.{next_a_word}
 
 pub declares_type : (r : Reading) → next_of word_in r ≡ Some word.Type → ahead [] r ≡ ahead (AName ∷ TheMark mark.OpenBrace ∷ AName ∷ MoreNames (TheMark mark.CloseBrace) ∷ []) (skipped r)
 unfolding declared declared_by
-declares_type r h = begins_takes (AName ∷ TheMark mark.OpenBrace ∷ AName ∷ MoreNames (TheMark mark.CloseBrace) ∷ []) r (token.Word word.Type) (word_there r word.Type h) refl
+declares_type r h = begins_takes (AName ∷ TheMark mark.OpenBrace ∷ AName ∷ MoreNames (TheMark mark.CloseBrace) ∷ []) r (token.Word word.Type) (next_a_word r word.Type h) refl
 
 pub declares_object : (r : Reading) → next_of word_in r ≡ Some word.Object → ahead [] r ≡ ahead (AName ∷ TheMark mark.Colon ∷ AName ∷ TheMark mark.Semicolon ∷ []) (skipped r)
 unfolding declared declared_by
-declares_object r h = begins_takes (AName ∷ TheMark mark.Colon ∷ AName ∷ TheMark mark.Semicolon ∷ []) r (token.Word word.Object) (word_there r word.Object h) refl
+declares_object r h = begins_takes (AName ∷ TheMark mark.Colon ∷ AName ∷ TheMark mark.Semicolon ∷ []) r (token.Word word.Object) (next_a_word r word.Object h) refl
 
 pub declares_queue : (r : Reading) → next_of word_in r ≡ Some word.Queue → ahead [] r ≡ ahead (AName ∷ TheMark mark.OpenBracket ∷ ANumber ∷ TheMark mark.CloseBracket ∷ Channel ∷ []) (skipped r)
 unfolding declared declared_by
-declares_queue r h = begins_takes (AName ∷ TheMark mark.OpenBracket ∷ ANumber ∷ TheMark mark.CloseBracket ∷ Channel ∷ []) r (token.Word word.Queue) (word_there r word.Queue h) refl
+declares_queue r h = begins_takes (AName ∷ TheMark mark.OpenBracket ∷ ANumber ∷ TheMark mark.CloseBracket ∷ Channel ∷ []) r (token.Word word.Queue) (next_a_word r word.Queue h) refl
 
 pub declares_semaphore : (r : Reading) → next_of word_in r ≡ Some word.Semaphore → ahead [] r ≡ ahead (AName ∷ TheMark mark.Equals ∷ ANumber ∷ TheWord word.Max ∷ ANumber ∷ TheMark mark.Semicolon ∷ []) (skipped r)
 unfolding declared declared_by
-declares_semaphore r h = begins_takes (AName ∷ TheMark mark.Equals ∷ ANumber ∷ TheWord word.Max ∷ ANumber ∷ TheMark mark.Semicolon ∷ []) r (token.Word word.Semaphore) (word_there r word.Semaphore h) refl
+declares_semaphore r h = begins_takes (AName ∷ TheMark mark.Equals ∷ ANumber ∷ TheWord word.Max ∷ ANumber ∷ TheMark mark.Semicolon ∷ []) r (token.Word word.Semaphore) (next_a_word r word.Semaphore h) refl
 
 pub declares_fn : (r : Reading) → next_of word_in r ≡ Some word.Fn → ahead [] r ≡ ahead (AName ∷ TheMark mark.OpenParenthesis ∷ Parameters ∷ ABlock ∷ []) (skipped r)
 unfolding declared declared_by
-declares_fn r h = begins_takes (AName ∷ TheMark mark.OpenParenthesis ∷ Parameters ∷ ABlock ∷ []) r (token.Word word.Fn) (word_there r word.Fn h) refl
+declares_fn r h = begins_takes (AName ∷ TheMark mark.OpenParenthesis ∷ Parameters ∷ ABlock ∷ []) r (token.Word word.Fn) (next_a_word r word.Fn h) refl
 
 pub declares_thread : (r : Reading) → next_of word_in r ≡ Some word.Thread → ahead [] r ≡ ahead (AName ∷ TheMark mark.OpenParenthesis ∷ Parameters ∷ TheWord word.Priority ∷ ANumber ∷ ABlock ∷ []) (skipped r)
 unfolding declared declared_by
-declares_thread r h = begins_takes (AName ∷ TheMark mark.OpenParenthesis ∷ Parameters ∷ TheWord word.Priority ∷ ANumber ∷ ABlock ∷ []) r (token.Word word.Thread) (word_there r word.Thread h) refl
+declares_thread r h = begins_takes (AName ∷ TheMark mark.OpenParenthesis ∷ Parameters ∷ TheWord word.Priority ∷ ANumber ∷ ABlock ∷ []) r (token.Word word.Thread) (next_a_word r word.Thread h) refl
 
 pub declares_start : (r : Reading) → next_of word_in r ≡ Some word.Start → ahead [] r ≡ ahead (AName ∷ TheMark mark.OpenParenthesis ∷ Numbers ∷ TheMark mark.Semicolon ∷ []) (skipped r)
 unfolding declared declared_by
-declares_start r h = begins_takes (AName ∷ TheMark mark.OpenParenthesis ∷ Numbers ∷ TheMark mark.Semicolon ∷ []) r (token.Word word.Start) (word_there r word.Start h) refl
+declares_start r h = begins_takes (AName ∷ TheMark mark.OpenParenthesis ∷ Numbers ∷ TheMark mark.Semicolon ∷ []) r (token.Word word.Start) (next_a_word r word.Start h) refl
 
 pub channel_some : (parts : List Part) (r : Reading) → sees_word word.Input r ≡ true → ahead (Channel ∷ parts) r ≡ ahead (ANumber ∷ TheMark mark.Semicolon ∷ parts) (skipped r)
 unfolding turn call_end statement stated_by tstatement transacted_by counted own_counts open_counts close_counts is_mark is_word is_name is_number is_text mark_number word_number
@@ -51,7 +51,7 @@ channel_none parts r h = ahead_alike Channel (TheMark mark.Semicolon) parts (par
 
 pub declares_stuck : (r : Reading) (w : word.the_data) → next_of word_in r ≡ Some w → declared_by w ≡ None → ahead [] r ≡ StuckAt r.left
 unfolding declared
-declares_stuck r w h none = begins_stuck r (token.Word w) (word_there r w h) none
+declares_stuck r w h none = begins_stuck r (token.Word w) (next_a_word r w h) none
 
 no_declaration : (t : Token) → word_in t ≡ None → declared t ≡ None
 unfolding word_in declared

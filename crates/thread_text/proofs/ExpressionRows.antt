@@ -1,23 +1,21 @@
 -- The table's rows for expressions, as the parser's functions use them.
-use Rattle.std.proofs.Common.{◌≡◌, ◌<◌, ◌≤◌, ◌+◌, ℕ, List, [], ◌∷◌, ◌++◌, Option, Some, None, refl, drop, ap, ◌∙◌, sym, subst, Bool, true, false, cond, arith}
+use Rattle.std.proofs.Common.{◌≡◌, ◌<◌, ◌≤◌, ◌+◌, ℕ, List, [], ◌∷◌, ◌++◌, Option, Some, None, refl, ap, ◌∙◌, sym, subst, Bool, true, false, cond, arith}
 use Rattle.std.proofs.lemmas.Bool.Decides.{nat_tests}
 use Rattle.std.specs.Prelude.{nat_lt}
-use Rattle.thread_tree.specs.declared.expr.Op.{Op}
 use Rattle.thread_tree.specs.declared.expr.Op.TheVariants as op
 use Rattle.thread_tree.specs.declared.token.Mark.{Mark}
 use Rattle.thread_tree.specs.declared.token.Mark.TheVariants as mark
 use Rattle.thread_tree.specs.declared.token.Token.{Token}
 use Rattle.thread_tree.specs.declared.token.Token.TheVariants as token
 use Rattle.thread_tree.specs.declared.token.Word.{Word}
-use Rattle.thread_tree.specs.declared.token.Word.TheVariants as word
 use Rattle.thread_tree.specs.Grammar.{turn, operand, behind_name, is_mark, is_word, is_name, is_number, is_prefix, is_between, prefixes, mark_number}
 use Rattle.thread_tree.specs.Levels.{level_of, binding}
 use Rattle.thread_tree.specs.Parts.{Part, TheMark, AName, Expression, Inner, After, Dots, MoreDots}
 use Rattle.thread_text.specs.Bounds.{Counts, counted, one_operator, one_parenthesis, afresh, own_counts, operand_counts}
-use Rattle.thread_text.specs.Fate.{Reading, Fate, StuckAt, LongAt, judged, ahead, next, next_is, next_of, next_binding, sees, sees_word, skipped, counting, begun}
+use Rattle.thread_text.specs.Fate.{Reading, LongAt, judged, ahead, next, next_is, next_of, next_binding, sees, sees_word, skipped, counting, begun}
 use Rattle.thread_text.specs.Kinds.{number_in, operator_in}
-use Rattle.thread_text.proofs.Steps.{ahead_takes, ahead_long, ahead_alike, ahead_stuck, seen, unseen, of_next, not_next, counting_same}
-use Rattle.thread_text.proofs.Tags.{is_the_mark, is_the_word}
+use Rattle.thread_text.proofs.Steps.{ahead_takes, ahead_long, ahead_alike, seen, unseen, of_next, not_next, counting_same}
+use Rattle.grammar_laws.proofs.Callers.{is_the_mark, is_the_word}
 
 -- a mark, or a word, that this part takes
 pub mark_row : (part : Part) (parts first : List Part) (r : Reading) (m : Mark) (counts : Counts) → sees m r ≡ true → turn part (token.Mark m) ≡ Some first → counted part (token.Mark m) r.counts ≡ Some counts → ahead (part ∷ parts) r ≡ ahead (first ++ parts) (counting counts r)

@@ -1,9 +1,8 @@
-pub mod Callers
-mod Tags
 mod Steps
 mod ExpressionRows
 mod ListRows
 mod StatementRows
+mod CallRows
 mod TransactionRows
 mod BlockRows
 mod DeclarationRows
@@ -11,18 +10,6 @@ mod Taken
 mod Sequences
 mod Layers
 mod Made
-mod Finish
-mod Fine
 mod Openness
 mod Explained
-mod BlockLaws
-mod Contents
-mod ContentsKept
-mod PrinterLaws
-mod RepeatBlocks
-mod RepeatCalls
-mod RepeatDeclarations
-mod RepeatExpressions
-mod RepeatLists
-mod RepeatTransactions
-mod RescannedLaws
+mod Parsed

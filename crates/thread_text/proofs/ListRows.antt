@@ -1,16 +1,16 @@
 -- The table's rows for lists, as the parser's functions use them.
-use Rattle.std.proofs.Common.{◌≡◌, ◌<◌, ◌≤◌, ◌+◌, ℕ, List, [], ◌∷◌, ◌++◌, Option, Some, None, refl, ap, ◌∙◌, sym, subst, Bool, true, false, cond}
+use Rattle.std.proofs.Common.{◌≡◌, List, [], ◌∷◌, Some, None, refl, ap, ◌∙◌, Bool, true, false}
 use Rattle.thread_tree.specs.declared.token.Mark.TheVariants as mark
 use Rattle.thread_tree.specs.declared.token.Token.{Token}
 use Rattle.thread_tree.specs.declared.token.Token.TheVariants as token
 use Rattle.thread_tree.specs.declared.token.Word.TheVariants as word
-use Rattle.thread_tree.specs.Grammar.{turn, call_end, declared, declared_by, statement, stated_by, tstatement, transacted_by, is_mark, is_word, is_name, is_number, is_text, is_between, mark_number, word_number}
-use Rattle.thread_tree.specs.Parts.{Part, TheMark, TheWord, AName, ANumber, MoreNames, Channel, Parameters, Numbers, MoreNumbers, ABlock, Statements, Otherwise, AfterName, Assigned, AfterAssigned, Returned, AtomicTo, To, AnItem, MoreItems, Arguments, MoreExpressions, AWho, ATBlock, TStatements, TOtherwise, AfterTName, TAssigned, MoreField, Values, Expression, Inner, After}
+use Rattle.thread_tree.specs.Grammar.{turn, call_end, statement, stated_by, tstatement, transacted_by, is_mark, is_word, is_name, is_number, is_text, mark_number, word_number}
+use Rattle.thread_tree.specs.Parts.{Part, TheMark, AName, ANumber, MoreNames, Parameters, Numbers, MoreNumbers, To, AnItem, MoreItems, Arguments, MoreExpressions, AWho, Values, Expression}
 use Rattle.thread_tree.specs.declared.name.Text.{Text}
-use Rattle.thread_text.specs.Bounds.{Counts, counted, own_counts, open_counts, close_counts, operand_counts}
-use Rattle.thread_text.specs.Fate.{Reading, Fate, judged, ahead, next, next_is, next_of, sees, sees_word, skipped, counting, begun}
-use Rattle.thread_text.specs.Kinds.{word_in, name_in, text_in}
-use Rattle.thread_text.proofs.Steps.{ahead_takes, ahead_alike, seen, unseen, of_next, not_next, counting_same}
+use Rattle.thread_text.specs.Bounds.{Counts, counted, own_counts, open_counts, close_counts}
+use Rattle.thread_text.specs.Fate.{Reading, ahead, next_of, sees, sees_word, skipped}
+use Rattle.thread_text.specs.Kinds.{text_in}
+use Rattle.thread_text.proofs.Steps.{ahead_takes, ahead_alike, unseen, of_next, not_next, counting_same}
 use Rattle.thread_text.proofs.ExpressionRows.{mark_row, word_row, then_alike}
 
 pub names_more : (next_ : Part) → (parts : List Part) (r : Reading) → sees mark.Comma r ≡ true → ahead (MoreNames next_ ∷ parts) r ≡ ahead (AName ∷ MoreNames next_ ∷ parts) (skipped r)

@@ -1,6 +1,6 @@
 -- Blocks, and statements with blocks, that were made of their parts.
-use Rattle.std.proofs.Common.{◌≡◌, ap, sym, subst, ◌∙◌, List, [], ◌∷◌, Option, Some, None, false, true, MatchOption, length, get_or, ◌≤◌, arith, refl}
-use Rattle.thread_tree.specs.declared.block.Block.{Block, roll-Block, out-Block, out-roll-Block}
+use Rattle.std.proofs.Common.{◌≡◌, ap, sym, subst, List, [], ◌∷◌, Option, Some, None, false, true, MatchOption, length, get_or, ◌≤◌, arith, refl}
+use Rattle.thread_tree.specs.declared.block.Block.{Block, roll-Block, out-roll-Block}
 use Rattle.thread_tree.specs.declared.block.Stmt as S
 use Rattle.thread_tree.specs.declared.block.Stmt.{Stmt}
 use Rattle.thread_tree.specs.declared.expr.Expr.{Expr}
@@ -9,7 +9,7 @@ use Rattle.thread_tree.specs.declared.token.Mark.TheVariants as mark
 use Rattle.thread_tree.specs.declared.token.Placed.{Placed}
 use Rattle.thread_tree.specs.declared.token.Token.TheVariants as token
 use Rattle.thread_tree.specs.declared.token.Word.TheVariants as word
-use Rattle.thread_tree.specs.declared.transaction.TBlock.{TBlock, roll-TBlock, out-TBlock, out-roll-TBlock}
+use Rattle.thread_tree.specs.declared.transaction.TBlock.{TBlock, roll-TBlock, out-roll-TBlock}
 use Rattle.thread_tree.specs.declared.transaction.TStmt as T
 use Rattle.thread_tree.specs.declared.transaction.TStmt.{TStmt}
 use Rattle.thread_tree.specs.Spelling.{Takes, TakesAny, TakesMark, SpellsExpr}
@@ -40,7 +40,7 @@ tif_made e inside (Some other) before a b c after w x y h = tif_else (tout_if e 
 -- the first token of a list, and a list with none
 pub begins_at : (left : List Placed) (p : Placed) → 1 ≤ length left → p ≡ get_or left 0 p → BeginsAt p.place left
 begins_at [] p h e = absurd (omega arith)
-begins_at (q ∷ left) p h e = record { token = q.token; after = left; first = ap (λ x. record { token = q.token; place = x } ∷ left) (ap (λ x. x.place) (sym e)) }
+begins_at (q ∷ left) p h e = record { token = q.token; after = left; first = record { first = ap (λ x. record { token = q.token; place = x } ∷ left) (ap (λ x. x.place) (sym e)) } }
 
 pub none_left : (left : List Placed) → next left ≡ None → left ≡ []
 unfolding next

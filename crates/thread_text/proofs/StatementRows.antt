@@ -1,109 +1,52 @@
 -- The table's rows for statements, as the parser's functions use them.
-use Rattle.std.proofs.Common.{◌≡◌, ◌<◌, ◌≤◌, ◌+◌, ℕ, List, [], ◌∷◌, ◌++◌, Option, Some, None, refl, ap, ◌∙◌, sym, subst, Bool, true, false, cond}
+use Rattle.std.proofs.Common.{◌≡◌, List, [], ◌∷◌, ◌++◌, Option, Some, None, refl, ap, ◌∙◌, sym, subst, Bool, true, false, cond}
 use Rattle.thread_tree.specs.declared.token.Mark.TheVariants as mark
 use Rattle.thread_tree.specs.declared.token.Token.{Token}
 use Rattle.thread_tree.specs.declared.token.Token.TheVariants as token
 use Rattle.thread_tree.specs.declared.token.Word.TheVariants as word
-use Rattle.thread_tree.specs.Grammar.{operand, behind_name, turn, call_end, declared, declared_by, statement, stated_by, tstatement, transacted_by, is_mark, is_word, is_name, is_number, is_text, is_between, mark_number, word_number}
-use Rattle.thread_tree.specs.Parts.{Part, TheMark, TheWord, AName, ANumber, MoreNames, Channel, Parameters, Numbers, MoreNumbers, ABlock, Statements, Otherwise, AfterName, Assigned, AfterAssigned, Returned, AtomicTo, To, AnItem, MoreItems, Arguments, MoreExpressions, AWho, ATBlock, TStatements, TOtherwise, AfterTName, TAssigned, MoreField, Values, Expression, Inner, After}
-use Rattle.thread_text.specs.Bounds.{afresh, Counts, counted, own_counts, open_counts, close_counts, operand_counts}
-use Rattle.thread_text.specs.Fate.{sees_call, Reading, Fate, judged, ahead, next, next_is, next_of, sees, sees_word, skipped, counting, begun}
-use Rattle.thread_text.specs.Kinds.{word_in, name_in, text_in}
-use Rattle.thread_text.proofs.Steps.{ahead_end, ahead_takes, ahead_alike, seen, unseen, of_next, not_next, counting_same}
+use Rattle.thread_tree.specs.Pieces.{shape}
+use Rattle.thread_tree.specs.Grammar.{operand, behind_name, turn, call_end, statement, stated_by, plain_by, tstatement, transacted_by, is_mark, is_word, is_name, is_number, is_text, is_between, mark_number, word_number}
+use Rattle.thread_tree.specs.Parts.{Part, TheMark, AName, MoreNames, ABlock, Statements, Otherwise, AfterName, Assigned, AfterAssigned, Returned, AtomicTo, Arguments, ATBlock, Expression, After}
+use Rattle.thread_text.specs.Bounds.{afresh, Counts, counted, own_counts, open_counts, close_counts}
+use Rattle.thread_text.specs.Fate.{sees_call, Reading, judged, ahead, next, next_is, next_of, sees, sees_word, skipped, counting, begun}
+use Rattle.thread_text.specs.Kinds.{word_in}
+use Rattle.thread_text.proofs.Steps.{ahead_end, ahead_takes, ahead_alike, seen, unseen, not_next, counting_same}
+use Rattle.thread_text.proofs.Taken.{next_a_word}
 use Rattle.thread_text.proofs.ExpressionRows.{mark_row, word_row, then_alike}
 
 pub said : (part : Part) (parts first : List Part) (r : Reading) (w : word.the_data) → next_of word_in r ≡ Some w → turn part (token.Word w) ≡ Some first → counted part (token.Word w) r.counts ≡ Some r.counts → ahead (part ∷ parts) r ≡ ahead (first ++ parts) (skipped r)
-said part parts first r w h turns counting_ = let s = of_next word_in r w h in ahead_takes part parts first r (token.Word w) r.counts (s.1 ∙ ap (λ t. Some t) (it_is s.0 s.2)) turns counting_ ∙ ap (λ q. ahead (first ++ parts) q) (counting_same r) where
-  it_is : (t : Token) → word_in t ≡ Some w → t ≡ token.Word w
-  it_is (token.Word v) e = unfold word_in in cc
-  it_is (token.Name _) e = unfold word_in in absurd (cc)
-  it_is (token.Number _) e = unfold word_in in absurd (cc)
-  it_is (token.Text _) e = unfold word_in in absurd (cc)
-  it_is (token.Mark _) e = unfold word_in in absurd (cc)
-  it_is (token.Operator _) e = unfold word_in in absurd (cc)
+said part parts first r w h turns counting_ = ahead_takes part parts first r (token.Word w) r.counts (next_a_word r w h) turns counting_ ∙ ap (λ q. ahead (first ++ parts) q) (counting_same r)
 
 pub states_let : (parts : List Part) (r : Reading) → next_of word_in r ≡ Some word.Let → ahead (Statements ∷ parts) r ≡ ahead (AName ∷ TheMark mark.Equals ∷ Expression false (TheMark mark.Semicolon) ∷ Statements ∷ parts) (skipped r)
-unfolding turn call_end statement stated_by tstatement transacted_by counted own_counts open_counts close_counts is_mark is_word is_name is_number is_text mark_number word_number
+unfolding turn call_end statement stated_by plain_by shape tstatement transacted_by counted own_counts open_counts close_counts is_mark is_word is_name is_number is_text mark_number word_number
 states_let parts r h = said Statements parts (AName ∷ TheMark mark.Equals ∷ Expression false (TheMark mark.Semicolon) ∷ Statements ∷ []) r word.Let h refl refl
 
 pub states_if : (parts : List Part) (r : Reading) → next_of word_in r ≡ Some word.If → ahead (Statements ∷ parts) r ≡ ahead (Expression false ABlock ∷ Otherwise ∷ parts) (skipped r)
-unfolding turn call_end statement stated_by tstatement transacted_by counted own_counts open_counts close_counts is_mark is_word is_name is_number is_text mark_number word_number
+unfolding turn call_end statement stated_by plain_by shape tstatement transacted_by counted own_counts open_counts close_counts is_mark is_word is_name is_number is_text mark_number word_number
 states_if parts r h = said Statements parts (Expression false ABlock ∷ Otherwise ∷ []) r word.If h refl refl
 
 pub states_while : (parts : List Part) (r : Reading) → next_of word_in r ≡ Some word.While → ahead (Statements ∷ parts) r ≡ ahead (Expression false ABlock ∷ Statements ∷ parts) (skipped r)
-unfolding turn call_end statement stated_by tstatement transacted_by counted own_counts open_counts close_counts is_mark is_word is_name is_number is_text mark_number word_number
+unfolding turn call_end statement stated_by plain_by shape tstatement transacted_by counted own_counts open_counts close_counts is_mark is_word is_name is_number is_text mark_number word_number
 states_while parts r h = said Statements parts (Expression false ABlock ∷ Statements ∷ []) r word.While h refl refl
 
 pub states_ploop : (parts : List Part) (r : Reading) → next_of word_in r ≡ Some word.Ploop → ahead (Statements ∷ parts) r ≡ ahead (ABlock ∷ Statements ∷ parts) (skipped r)
-unfolding turn call_end statement stated_by tstatement transacted_by counted own_counts open_counts close_counts is_mark is_word is_name is_number is_text mark_number word_number
+unfolding turn call_end statement stated_by plain_by shape tstatement transacted_by counted own_counts open_counts close_counts is_mark is_word is_name is_number is_text mark_number word_number
 states_ploop parts r h = said Statements parts (ABlock ∷ Statements ∷ []) r word.Ploop h refl refl
 
 pub states_break : (parts : List Part) (r : Reading) → next_of word_in r ≡ Some word.Break → ahead (Statements ∷ parts) r ≡ ahead (TheMark mark.Semicolon ∷ Statements ∷ parts) (skipped r)
-unfolding turn call_end statement stated_by tstatement transacted_by counted own_counts open_counts close_counts is_mark is_word is_name is_number is_text mark_number word_number
+unfolding turn call_end statement stated_by plain_by shape tstatement transacted_by counted own_counts open_counts close_counts is_mark is_word is_name is_number is_text mark_number word_number
 states_break parts r h = said Statements parts (TheMark mark.Semicolon ∷ Statements ∷ []) r word.Break h refl refl
 
 pub states_return : (parts : List Part) (r : Reading) → next_of word_in r ≡ Some word.Return → ahead (Statements ∷ parts) r ≡ ahead (Returned ∷ Statements ∷ parts) (skipped r)
-unfolding turn call_end statement stated_by tstatement transacted_by counted own_counts open_counts close_counts is_mark is_word is_name is_number is_text mark_number word_number
+unfolding turn call_end statement stated_by plain_by shape tstatement transacted_by counted own_counts open_counts close_counts is_mark is_word is_name is_number is_text mark_number word_number
 states_return parts r h = said Statements parts (Returned ∷ Statements ∷ []) r word.Return h refl refl
 
 pub states_atomic : (parts : List Part) (r : Reading) → next_of word_in r ≡ Some word.Atomic → ahead (Statements ∷ parts) r ≡ ahead (AtomicTo ∷ Statements ∷ parts) (skipped r)
-unfolding turn call_end statement stated_by tstatement transacted_by counted own_counts open_counts close_counts is_mark is_word is_name is_number is_text mark_number word_number
+unfolding turn call_end statement stated_by plain_by shape tstatement transacted_by counted own_counts open_counts close_counts is_mark is_word is_name is_number is_text mark_number word_number
 states_atomic parts r h = said Statements parts (AtomicTo ∷ Statements ∷ []) r word.Atomic h refl refl
 
-pub states_print : (parts : List Part) (r : Reading) → next_of word_in r ≡ Some word.Print → ahead (Statements ∷ parts) r ≡ ahead (AnItem ∷ Statements ∷ parts) (skipped r)
-unfolding turn call_end statement stated_by tstatement transacted_by counted own_counts open_counts close_counts is_mark is_word is_name is_number is_text mark_number word_number
-states_print parts r h = said Statements parts (AnItem ∷ Statements ∷ []) r word.Print h refl refl
-
-pub states_spawn : (parts : List Part) (r : Reading) → next_of word_in r ≡ Some word.Spawn → ahead (Statements ∷ parts) r ≡ ahead (AName ∷ TheMark mark.OpenParenthesis ∷ Arguments ∷ To ∷ Statements ∷ parts) (skipped r)
-unfolding turn call_end statement stated_by tstatement transacted_by counted own_counts open_counts close_counts is_mark is_word is_name is_number is_text mark_number word_number
-states_spawn parts r h = said Statements parts (AName ∷ TheMark mark.OpenParenthesis ∷ Arguments ∷ To ∷ Statements ∷ []) r word.Spawn h refl refl
-
-pub states_delete : (parts : List Part) (r : Reading) → next_of word_in r ≡ Some word.Delete → ahead (Statements ∷ parts) r ≡ ahead (AWho To ∷ Statements ∷ parts) (skipped r)
-unfolding turn call_end statement stated_by tstatement transacted_by counted own_counts open_counts close_counts is_mark is_word is_name is_number is_text mark_number word_number
-states_delete parts r h = said Statements parts (AWho To ∷ Statements ∷ []) r word.Delete h refl refl
-
-pub states_delay : (parts : List Part) (r : Reading) → next_of word_in r ≡ Some word.Delay → ahead (Statements ∷ parts) r ≡ ahead (Expression false To ∷ Statements ∷ parts) (skipped r)
-unfolding turn call_end statement stated_by tstatement transacted_by counted own_counts open_counts close_counts is_mark is_word is_name is_number is_text mark_number word_number
-states_delay parts r h = said Statements parts (Expression false To ∷ Statements ∷ []) r word.Delay h refl refl
-
-pub states_setprio : (parts : List Part) (r : Reading) → next_of word_in r ≡ Some word.Setprio → ahead (Statements ∷ parts) r ≡ ahead (AWho (TheMark mark.Comma) ∷ Expression false To ∷ Statements ∷ parts) (skipped r)
-unfolding turn call_end statement stated_by tstatement transacted_by counted own_counts open_counts close_counts is_mark is_word is_name is_number is_text mark_number word_number
-states_setprio parts r h = said Statements parts (AWho (TheMark mark.Comma) ∷ Expression false To ∷ Statements ∷ []) r word.Setprio h refl refl
-
-pub states_getprio : (parts : List Part) (r : Reading) → next_of word_in r ≡ Some word.Getprio → ahead (Statements ∷ parts) r ≡ ahead (AWho To ∷ Statements ∷ parts) (skipped r)
-unfolding turn call_end statement stated_by tstatement transacted_by counted own_counts open_counts close_counts is_mark is_word is_name is_number is_text mark_number word_number
-states_getprio parts r h = said Statements parts (AWho To ∷ Statements ∷ []) r word.Getprio h refl refl
-
-pub states_send : (parts : List Part) (r : Reading) → next_of word_in r ≡ Some word.Send → ahead (Statements ∷ parts) r ≡ ahead (AName ∷ TheMark mark.Comma ∷ Expression false (TheMark mark.Comma) ∷ Expression false To ∷ Statements ∷ parts) (skipped r)
-unfolding turn call_end statement stated_by tstatement transacted_by counted own_counts open_counts close_counts is_mark is_word is_name is_number is_text mark_number word_number
-states_send parts r h = said Statements parts (AName ∷ TheMark mark.Comma ∷ Expression false (TheMark mark.Comma) ∷ Expression false To ∷ Statements ∷ []) r word.Send h refl refl
-
-pub states_receive : (parts : List Part) (r : Reading) → next_of word_in r ≡ Some word.Receive → ahead (Statements ∷ parts) r ≡ ahead (AName ∷ TheMark mark.Comma ∷ Expression false To ∷ Statements ∷ parts) (skipped r)
-unfolding turn call_end statement stated_by tstatement transacted_by counted own_counts open_counts close_counts is_mark is_word is_name is_number is_text mark_number word_number
-states_receive parts r h = said Statements parts (AName ∷ TheMark mark.Comma ∷ Expression false To ∷ Statements ∷ []) r word.Receive h refl refl
-
-pub states_take : (parts : List Part) (r : Reading) → next_of word_in r ≡ Some word.Take → ahead (Statements ∷ parts) r ≡ ahead (AName ∷ TheMark mark.Comma ∷ Expression false To ∷ Statements ∷ parts) (skipped r)
-unfolding turn call_end statement stated_by tstatement transacted_by counted own_counts open_counts close_counts is_mark is_word is_name is_number is_text mark_number word_number
-states_take parts r h = said Statements parts (AName ∷ TheMark mark.Comma ∷ Expression false To ∷ Statements ∷ []) r word.Take h refl refl
-
-pub states_give : (parts : List Part) (r : Reading) → next_of word_in r ≡ Some word.Give → ahead (Statements ∷ parts) r ≡ ahead (AName ∷ To ∷ Statements ∷ parts) (skipped r)
-unfolding turn call_end statement stated_by tstatement transacted_by counted own_counts open_counts close_counts is_mark is_word is_name is_number is_text mark_number word_number
-states_give parts r h = said Statements parts (AName ∷ To ∷ Statements ∷ []) r word.Give h refl refl
-
-pub states_now : (parts : List Part) (r : Reading) → next_of word_in r ≡ Some word.Now → ahead (Statements ∷ parts) r ≡ ahead (To ∷ Statements ∷ parts) (skipped r)
-unfolding turn call_end statement stated_by tstatement transacted_by counted own_counts open_counts close_counts is_mark is_word is_name is_number is_text mark_number word_number
-states_now parts r h = said Statements parts (To ∷ Statements ∷ []) r word.Now h refl refl
-
-pub states_yield : (parts : List Part) (r : Reading) → next_of word_in r ≡ Some word.Yield → ahead (Statements ∷ parts) r ≡ ahead (To ∷ Statements ∷ parts) (skipped r)
-unfolding turn call_end statement stated_by tstatement transacted_by counted own_counts open_counts close_counts is_mark is_word is_name is_number is_text mark_number word_number
-states_yield parts r h = said Statements parts (To ∷ Statements ∷ []) r word.Yield h refl refl
-
-pub states_waiting : (parts : List Part) (r : Reading) → next_of word_in r ≡ Some word.Waiting → ahead (Statements ∷ parts) r ≡ ahead (AName ∷ To ∷ Statements ∷ parts) (skipped r)
-unfolding turn call_end statement stated_by tstatement transacted_by counted own_counts open_counts close_counts is_mark is_word is_name is_number is_text mark_number word_number
-states_waiting parts r h = said Statements parts (AName ∷ To ∷ Statements ∷ []) r word.Waiting h refl refl
-
 pub else_some : (parts : List Part) (r : Reading) → sees_word word.Else r ≡ true → ahead (Otherwise ∷ parts) r ≡ ahead (ABlock ∷ Statements ∷ parts) (skipped r)
-unfolding turn call_end statement stated_by tstatement transacted_by counted own_counts open_counts close_counts is_mark is_word is_name is_number is_text mark_number word_number
+unfolding turn call_end statement stated_by plain_by shape tstatement transacted_by counted own_counts open_counts close_counts is_mark is_word is_name is_number is_text mark_number word_number
 else_some parts r h = word_row Otherwise parts (ABlock ∷ Statements ∷ []) r word.Else r.counts h refl refl ∙ ap (λ q. ahead (ABlock ∷ Statements ∷ parts) q) (counting_same r)
 
 pub else_none : (parts : List Part) (r : Reading) → sees_word word.Else r ≡ false → ahead (Otherwise ∷ parts) r ≡ ahead (Statements ∷ parts) r
@@ -111,7 +54,7 @@ unfolding turn counted call_end
 else_none parts r h = ahead_alike Otherwise Statements parts (parts) r r.counts (λ t e. let f = unseen (is_word word.Else) r t h e in rw f (refl))
 
 pub calls : (parts : List Part) (r : Reading) → sees mark.OpenParenthesis r ≡ true → ahead (AfterName ∷ parts) r ≡ ahead (Arguments ∷ TheMark mark.Semicolon ∷ parts) (skipped r)
-unfolding turn call_end statement stated_by tstatement transacted_by counted own_counts open_counts close_counts is_mark is_word is_name is_number is_text mark_number word_number
+unfolding turn call_end statement stated_by plain_by shape tstatement transacted_by counted own_counts open_counts close_counts is_mark is_word is_name is_number is_text mark_number word_number
 calls parts r h = mark_row AfterName parts (Arguments ∷ TheMark mark.Semicolon ∷ []) r mark.OpenParenthesis r.counts h refl refl ∙ ap (λ q. ahead (Arguments ∷ TheMark mark.Semicolon ∷ parts) q) (counting_same r)
 
 pub assigns : (parts : List Part) (r : Reading) → sees mark.OpenParenthesis r ≡ false → ahead (AfterName ∷ parts) r ≡ ahead (TheMark mark.Equals ∷ Assigned ∷ parts) r
@@ -119,7 +62,7 @@ unfolding turn counted call_end
 assigns parts r h = ahead_alike AfterName (TheMark mark.Equals) parts (Assigned ∷ parts) r r.counts (λ t e. let f = unseen (is_mark mark.OpenParenthesis) r t h e in rw f (then_alike (is_mark mark.Equals t) (Assigned ∷ []) _ parts))
 
 pub returns_none : (parts : List Part) (r : Reading) → sees mark.Semicolon r ≡ true → ahead (Returned ∷ parts) r ≡ ahead (parts) (skipped r)
-unfolding turn call_end statement stated_by tstatement transacted_by counted own_counts open_counts close_counts is_mark is_word is_name is_number is_text mark_number word_number
+unfolding turn call_end statement stated_by plain_by shape tstatement transacted_by counted own_counts open_counts close_counts is_mark is_word is_name is_number is_text mark_number word_number
 returns_none parts r h = mark_row Returned parts ([]) r mark.Semicolon r.counts h refl refl ∙ ap (λ q. ahead (parts) q) (counting_same r)
 
 pub returns_some : (parts : List Part) (r : Reading) → sees mark.Semicolon r ≡ false → ahead (Returned ∷ parts) r ≡ ahead (Expression false (TheMark mark.Semicolon) ∷ parts) r
@@ -127,7 +70,7 @@ unfolding turn counted call_end
 returns_some parts r h = ahead_alike Returned (Expression false (TheMark mark.Semicolon)) parts (parts) r r.counts (λ t e. let f = unseen (is_mark mark.Semicolon) r t h e in rw f (refl))
 
 pub atomic_some : (parts : List Part) (r : Reading) → sees mark.Arrow r ≡ true → ahead (AtomicTo ∷ parts) r ≡ ahead (AName ∷ MoreNames ATBlock ∷ parts) (skipped r)
-unfolding turn call_end statement stated_by tstatement transacted_by counted own_counts open_counts close_counts is_mark is_word is_name is_number is_text mark_number word_number
+unfolding turn call_end statement stated_by plain_by shape tstatement transacted_by counted own_counts open_counts close_counts is_mark is_word is_name is_number is_text mark_number word_number
 atomic_some parts r h = mark_row AtomicTo parts (AName ∷ MoreNames ATBlock ∷ []) r mark.Arrow r.counts h refl refl ∙ ap (λ q. ahead (AName ∷ MoreNames ATBlock ∷ parts) q) (counting_same r)
 
 pub atomic_none : (parts : List Part) (r : Reading) → sees mark.Arrow r ≡ false → ahead (AtomicTo ∷ parts) r ≡ ahead (ATBlock ∷ parts) r

@@ -1,5 +1,5 @@
 -- One token of a fate, by what may stand there and the counts.
-use Rattle.std.proofs.Common.{◌≡◌, ℕ, List, [], ◌∷◌, ◌++◌, Option, Some, None, IsSome, append-nil, refl, drop, ap, ◌∙◌, sym, subst, Bool, true, false, rules}
+use Rattle.std.proofs.Common.{◌≡◌, ℕ, List, [], ◌∷◌, ◌++◌, Option, Some, None, IsSome, append-nil, refl, ap, ◌∙◌, sym, subst, Bool, true, false, rules}
 use Rattle.thread_tree.specs.declared.token.Mark.{Mark}
 use Rattle.thread_tree.specs.declared.token.Placed.{Placed}
 use Rattle.thread_tree.specs.declared.token.Token.{Token}

@@ -14,7 +14,7 @@ use Rattle.thread_tree.specs.Spelling.{Takes, TakesAny}
 use Rattle.thread_text.specs.Fate.{Reading, next, next_is, next_of, next_binding, sees, sees_word}
 use Rattle.thread_text.specs.Kinds.{name_in, number_in, word_in, operator_in, text_in}
 use Rattle.thread_text.proofs.Steps.{seen, of_next}
-use Rattle.thread_text.proofs.Tags.{is_the_mark, is_the_word}
+use Rattle.grammar_laws.proofs.Callers.{is_the_mark, is_the_word}
 
 pub next_mark : (r : Reading) (m : Mark) → sees m r ≡ true → next r.left ≡ Some (token.Mark m)
 next_mark r m h = let s = seen (is_mark m) r h in s.1 ∙ ap (λ t. Some t) (is_the_mark m s.0 s.2)

@@ -1,10 +1,9 @@
 -- What becomes of tokens: they are whole, or stop at one of them.
-use Rattle.std.specs.Prelude.{◌≡◌, ℕ, Bool, true, false, if◌then◌else◌, List, [], ◌∷◌, ◌++◌, drop, Option, Some, None, Result, Ok, Err}
+use Rattle.std.specs.Prelude.{◌≡◌, ℕ, Bool, false, if◌then◌else◌, List, [], ◌∷◌, ◌++◌, drop, Option, Some, None, Result, Ok, Err}
 use Rattle.thread_tree.specs.declared.token.Mark.TheVariants.{OpenParenthesis}
 use Rattle.thread_tree.specs.declared.token.Placed.{Placed}
 use Rattle.thread_tree.specs.declared.token.Mark.{Mark}
 use Rattle.thread_tree.specs.declared.token.Token.{Token}
-use Rattle.thread_tree.specs.declared.token.Token.TheVariants as token
 use Rattle.thread_tree.specs.declared.token.Word.{Word}
 use Rattle.thread_tree.specs.Grammar.{turn, advance, is_mark, is_word, is_name}
 use Rattle.thread_tree.specs.Levels.{binding}

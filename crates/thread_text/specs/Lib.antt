@@ -3,7 +3,4 @@ pub mod Fate
 pub mod Kinds
 pub mod Verdict
 pub mod Refusals
-pub mod Canonical
-pub mod CanonicalText
-pub mod Repeats
-pub mod Rescanned
+pub mod Operands

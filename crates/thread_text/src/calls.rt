@@ -1,19 +1,26 @@
-ghost use Rattle.std.specs.Prelude.{◌≡◌, ◌≤◌, ◌<◌, ◌+◌, List, ◌∷◌, Bool, true, false, Some, None, IfOk, length};
+ghost use Rattle.std.specs.Prelude.{◌≡◌, ◌≤◌, ◌<◌, ◌+◌, List, [], ◌∷◌, ◌++◌, Bool, true, false, Some, None, IfOk, length};
 ghost use Rattle.thread_tree.specs.Spelling.{Separated};
-ghost use Rattle.thread_tree.specs.SpellingOfCalls.{SpellsCall, SpellsItem, SpellsWho};
+ghost use Rattle.thread_tree.specs.Few.{listed};
+ghost use Rattle.thread_tree.specs.Grammar.{row};
+ghost use Rattle.thread_tree.specs.Pieces.{pieces, shape, slot_of, word_of};
+ghost use Rattle.thread_tree.specs.declared.slot.Slot.{Slot};
+ghost use Rattle.thread_tree.specs.declared.slot.Slot.TheVariants as slot;
+ghost use Rattle.thread_tree.specs.SpellingOfCalls.{SpellsCall, SpellsItem, SpellsPiece, SpellsPieces, SpellsWho};
 ghost use Rattle.thread_tree.specs.SpellingOfBlocks.{SpellsStmt};
 ghost use Rattle.thread_tree.specs.declared.token.Placed.{Placed};
-ghost use Rattle.thread_tree.specs.Parts.{Part, Statements, AnItem, MoreItems, AWho, To};
-ghost use Rattle.thread_tree.specs.declared.token.Mark.TheVariants.{Comma};
-ghost use Rattle.thread_tree.specs.declared.token.Word.TheVariants as word;
+ghost use Rattle.thread_tree.specs.Parts.{Part, TheMark, AName, Arguments, Statements, AnItem, MoreItems, AWho, To};
+ghost use Rattle.thread_tree.specs.declared.token.Mark.TheVariants.{Comma, OpenParenthesis};
 ghost use Rattle.thread_text.specs.Fate.{ahead, Follows, next_of, sees};
 ghost use Rattle.thread_text.specs.Kinds.{word_in};
+ghost use Rattle.thread_text.specs.Operands.{SpellsFirst, goes_on, piece_of};
 
 use crate::Halt;
+use crate::building::{call_of_none, call_of_one, call_of_three, call_of_two};
 use crate::cursor::Cursor;
 use crate::memory::{add, copied};
+use crate::operand::Operand;
 use std::alloc::Global;
-use thread_tree::{Call, Item, List, Mark, Place, Stmt, Who, Word};
+use thread_tree::{Call, Few, Item, List, Mark, Place, Slot, Stmt, Who, Word};
 
 impl<'a> Cursor<'a> {
     /// Reads the end of a call, which is then a statement.
@@ -76,195 +83,145 @@ impl<'a> Cursor<'a> {
         Ok(Who::Of(thread))
     }
 
-    /// Reads a `print`.
-    #[tactic(auto, using(crate::proofs::StatementRows::states_print, crate::proofs::Steps::read_some))]
-    pub fn print_statement(&mut self, alloc: Global) -> Result<Stmt, Halt>
-        requires word { next_of word_in self.old ≡ Some word.Print }
-        ensures fate { (parts : List Part) → Follows result (ahead (Statements ∷ parts) self.old) (ahead (Statements ∷ parts) self.new) self.new }
-        ensures tree { IfOk result (λ tree. SpellsStmt self.old.left self.new.left tree) }
+    /// Reads a template's name and its arguments in parentheses.
+    fn application(&mut self, alloc: Global) -> Result<Operand, Halt>
+        ensures fate { (parts : List Part) → Follows result (ahead (AName ∷ TheMark OpenParenthesis ∷ Arguments ∷ parts) self.old) (ahead parts self.new) self.new }
+        ensures slot { IfOk result (λ operand. slot_of (piece_of operand) ≡ slot.Application) }
+        ensures tree { IfOk result (λ operand. SpellsPiece self.old.left self.new.left (piece_of operand)) }
         ensures shorter { IfOk result (λ _. length self.new.left < length self.old.left) }
     {
-        let place = self.skip_word();
-        let items = self.items(alloc)?;
-        let statement = self.call_end(alloc, place, Call::Print(items))?;
-        Ok(statement)
-    }
-
-    /// Reads a `spawn`.
-    #[tactic(auto, using(crate::proofs::StatementRows::states_spawn, crate::proofs::Steps::read_some))]
-    pub fn spawn_statement(&mut self, alloc: Global) -> Result<Stmt, Halt>
-        requires word { next_of word_in self.old ≡ Some word.Spawn }
-        ensures fate { (parts : List Part) → Follows result (ahead (Statements ∷ parts) self.old) (ahead (Statements ∷ parts) self.new) self.new }
-        ensures tree { IfOk result (λ tree. SpellsStmt self.old.left self.new.left tree) }
-        ensures shorter { IfOk result (λ _. length self.new.left < length self.old.left) }
-    {
-        let place = self.skip_word();
-        let thread = self.name()?;
+        let template = self.name()?;
         self.expect(Mark::OpenParenthesis)?;
         let arguments = self.arguments(alloc)?;
-        let statement = self.call_end(alloc, place, Call::Spawn(thread, arguments))?;
-        Ok(statement)
+        Ok(Operand::Application(template, arguments))
     }
 
-    /// Reads a `delete`.
-    #[tactic(auto, using(crate::proofs::StatementRows::states_delete, crate::proofs::Steps::read_some))]
-    pub fn delete_statement(&mut self, alloc: Global) -> Result<Stmt, Halt>
-        requires word { next_of word_in self.old ≡ Some word.Delete }
-        ensures fate { (parts : List Part) → Follows result (ahead (Statements ∷ parts) self.old) (ahead (Statements ∷ parts) self.new) self.new }
-        ensures tree { IfOk result (λ tree. SpellsStmt self.old.left self.new.left tree) }
+    /// Reads what fills a place of a call.
+    fn filled(&mut self, alloc: Global, slot: Slot) -> Result<Operand, Halt>
+        ensures first { (next : Slot) (slots : List Slot) (parts : List Part) → goes_on slot ≡ true → Follows result (ahead (row (slot ∷ next ∷ slots) ++ parts) self.old) (ahead (TheMark Comma ∷ row (next ∷ slots) ++ parts) self.new) self.new }
+        ensures last { (parts : List Part) → Follows result (ahead (row (slot ∷ []) ++ parts) self.old) (ahead (To ∷ parts) self.new) self.new }
+        ensures slot { IfOk result (λ operand. slot_of (piece_of operand) ≡ slot) }
+        ensures tree { IfOk result (λ operand. SpellsPiece self.old.left self.new.left (piece_of operand)) }
         ensures shorter { IfOk result (λ _. length self.new.left < length self.old.left) }
     {
-        let place = self.skip_word();
-        let who = self.who(alloc)?;
-        let statement = self.call_end(alloc, place, Call::Delete(who))?;
-        Ok(statement)
+        match slot {
+            Slot::Name(needed) => {
+                let name = self.name()?;
+                Ok(Operand::Name(needed, name))
+            }
+            Slot::Value => {
+                let value = self.expression(alloc, false)?;
+                Ok(Operand::Value(value))
+            }
+            Slot::Whom => {
+                let whom = self.who(alloc)?;
+                Ok(Operand::Whom(whom))
+            }
+            Slot::Items => {
+                let items = self.items(alloc)?;
+                Ok(Operand::Items(items))
+            }
+            Slot::Application => {
+                let application = self.application(alloc)?;
+                Ok(application)
+            }
+        }
     }
 
-    /// Reads a `delay`.
-    #[tactic(auto, using(crate::proofs::StatementRows::states_delay, crate::proofs::Steps::read_some))]
-    pub fn delay_statement(&mut self, alloc: Global) -> Result<Stmt, Halt>
-        requires word { next_of word_in self.old ≡ Some word.Delay }
-        ensures fate { (parts : List Part) → Follows result (ahead (Statements ∷ parts) self.old) (ahead (Statements ∷ parts) self.new) self.new }
-        ensures tree { IfOk result (λ tree. SpellsStmt self.old.left self.new.left tree) }
+    /// Reads what fills a place of a call that isn't the last, and the comma.
+    fn filled_before(&mut self, alloc: Global, slot: Slot) -> Result<Operand, Halt>
+        requires goes_on { goes_on slot ≡ true }
+        ensures fate { (next : Slot) (slots : List Slot) (parts : List Part) → Follows result (ahead (row (slot ∷ next ∷ slots) ++ parts) self.old) (ahead (row (next ∷ slots) ++ parts) self.new) self.new }
+        ensures slot { IfOk result (λ operand. slot_of (piece_of operand) ≡ slot) }
+        ensures tree { IfOk result (λ operand. SpellsFirst self.old.left self.new.left (piece_of operand)) }
         ensures shorter { IfOk result (λ _. length self.new.left < length self.old.left) }
     {
-        let place = self.skip_word();
-        let ticks = self.expression(alloc, false)?;
-        let statement = self.call_end(alloc, place, Call::Delay(ticks))?;
-        Ok(statement)
-    }
-
-    /// Reads a `setprio`.
-    #[tactic(auto, using(crate::proofs::StatementRows::states_setprio, crate::proofs::Steps::read_some))]
-    pub fn setprio_statement(&mut self, alloc: Global) -> Result<Stmt, Halt>
-        requires word { next_of word_in self.old ≡ Some word.Setprio }
-        ensures fate { (parts : List Part) → Follows result (ahead (Statements ∷ parts) self.old) (ahead (Statements ∷ parts) self.new) self.new }
-        ensures tree { IfOk result (λ tree. SpellsStmt self.old.left self.new.left tree) }
-        ensures shorter { IfOk result (λ _. length self.new.left < length self.old.left) }
-    {
-        let place = self.skip_word();
-        let who = self.who(alloc)?;
+        let operand = self.filled(alloc, slot)?;
         self.expect(Mark::Comma)?;
-        let priority = self.expression(alloc, false)?;
-        let statement = self.call_end(alloc, place, Call::Setprio(who, priority))?;
-        Ok(statement)
+        Ok(operand)
     }
 
-    /// Reads a `getprio`.
-    #[tactic(auto, using(crate::proofs::StatementRows::states_getprio, crate::proofs::Steps::read_some))]
-    pub fn getprio_statement(&mut self, alloc: Global) -> Result<Stmt, Halt>
-        requires word { next_of word_in self.old ≡ Some word.Getprio }
+    /// Reads a call of this word with two operands, from behind the word up to its end.
+    #[tactic(auto, using(crate::proofs::CallRows::first_goes_on))]
+    fn call_with_two(&mut self, alloc: Global, word: Word, a: Slot, b: Slot) -> Result<Call, Halt>
+        requires shape { shape word ≡ Some (a ∷ b ∷ []) }
+        ensures fate { (parts : List Part) → Follows result (ahead (row (a ∷ b ∷ []) ++ parts) self.old) (ahead (To ∷ parts) self.new) self.new }
+        ensures word { IfOk result (λ call. word_of call ≡ word) }
+        ensures tree { IfOk result (λ call. SpellsPieces self.old.left self.new.left (pieces call)) }
+        ensures no_longer { IfOk result (λ _. length self.new.left ≤ length self.old.left) }
+    {
+        let first = self.filled_before(alloc, a)?;
+        let second = self.filled(alloc, b)?;
+        Ok(call_of_two(word, first, second))
+    }
+
+    /// Reads a call of this word with three operands, from behind the word up to its end.
+    #[tactic(auto, using(crate::proofs::CallRows::first_goes_on, crate::proofs::CallRows::second_goes_on))]
+    fn call_with_three(
+        &mut self,
+        alloc: Global,
+        word: Word,
+        a: Slot,
+        b: Slot,
+        c: Slot,
+    ) -> Result<Call, Halt>
+        requires shape { shape word ≡ Some (a ∷ b ∷ c ∷ []) }
+        ensures fate { (parts : List Part) → Follows result (ahead (row (a ∷ b ∷ c ∷ []) ++ parts) self.old) (ahead (To ∷ parts) self.new) self.new }
+        ensures word { IfOk result (λ call. word_of call ≡ word) }
+        ensures tree { IfOk result (λ call. SpellsPieces self.old.left self.new.left (pieces call)) }
+        ensures no_longer { IfOk result (λ _. length self.new.left ≤ length self.old.left) }
+    {
+        let first = self.filled_before(alloc, a)?;
+        let second = self.filled_before(alloc, b)?;
+        let third = self.filled(alloc, c)?;
+        Ok(call_of_three(word, first, second, third))
+    }
+
+    /// Reads a call of this word by the places behind it, up to its end.
+    fn call(&mut self, alloc: Global, word: Word, slots: Few<Slot>) -> Result<Call, Halt>
+        requires shape { shape word ≡ Some (listed slots) }
+        ensures fate { (parts : List Part) → Follows result (ahead (row (listed slots) ++ parts) self.old) (ahead (To ∷ parts) self.new) self.new }
+        ensures word { IfOk result (λ call. word_of call ≡ word) }
+        ensures tree { IfOk result (λ call. SpellsPieces self.old.left self.new.left (pieces call)) }
+        ensures no_longer { IfOk result (λ _. length self.new.left ≤ length self.old.left) }
+    {
+        match slots {
+            Few::Zero => Ok(call_of_none(word)),
+            Few::One(a) => {
+                let operand = self.filled(alloc, a)?;
+                Ok(call_of_one(word, operand))
+            }
+            Few::Two(a, b) => {
+                let call = self.call_with_two(alloc, word, a, b)?;
+                Ok(call)
+            }
+            Few::Three(a, b, c) => {
+                let call = self.call_with_three(alloc, word, a, b, c)?;
+                Ok(call)
+            }
+            // No word has so many places.
+            Few::Four(_, _, _, _) => unreachable!(),
+            Few::Five(_, _, _, _, _) => unreachable!(),
+        }
+    }
+
+    /// Reads a statement that is a call.
+    #[tactic(auto, using(crate::proofs::CallRows::states_call, crate::proofs::Steps::read_some))]
+    pub fn call_statement(
+        &mut self,
+        alloc: Global,
+        word: Word,
+        slots: Few<Slot>,
+    ) -> Result<Stmt, Halt>
+        requires word { next_of word_in self.old ≡ Some word }
+        requires shape { shape word ≡ Some (listed slots) }
         ensures fate { (parts : List Part) → Follows result (ahead (Statements ∷ parts) self.old) (ahead (Statements ∷ parts) self.new) self.new }
         ensures tree { IfOk result (λ tree. SpellsStmt self.old.left self.new.left tree) }
         ensures shorter { IfOk result (λ _. length self.new.left < length self.old.left) }
     {
         let place = self.skip_word();
-        let who = self.who(alloc)?;
-        let statement = self.call_end(alloc, place, Call::Getprio(who))?;
-        Ok(statement)
-    }
-
-    /// Reads a `send`.
-    #[tactic(auto, using(crate::proofs::StatementRows::states_send, crate::proofs::Steps::read_some))]
-    pub fn send_statement(&mut self, alloc: Global) -> Result<Stmt, Halt>
-        requires word { next_of word_in self.old ≡ Some word.Send }
-        ensures fate { (parts : List Part) → Follows result (ahead (Statements ∷ parts) self.old) (ahead (Statements ∷ parts) self.new) self.new }
-        ensures tree { IfOk result (λ tree. SpellsStmt self.old.left self.new.left tree) }
-        ensures shorter { IfOk result (λ _. length self.new.left < length self.old.left) }
-    {
-        let place = self.skip_word();
-        let queue = self.name()?;
-        self.expect(Mark::Comma)?;
-        let value = self.expression(alloc, false)?;
-        self.expect(Mark::Comma)?;
-        let limit = self.expression(alloc, false)?;
-        let statement = self.call_end(alloc, place, Call::Send(queue, value, limit))?;
-        Ok(statement)
-    }
-
-    /// Reads a `receive`.
-    #[tactic(auto, using(crate::proofs::StatementRows::states_receive, crate::proofs::Steps::read_some))]
-    pub fn receive_statement(&mut self, alloc: Global) -> Result<Stmt, Halt>
-        requires word { next_of word_in self.old ≡ Some word.Receive }
-        ensures fate { (parts : List Part) → Follows result (ahead (Statements ∷ parts) self.old) (ahead (Statements ∷ parts) self.new) self.new }
-        ensures tree { IfOk result (λ tree. SpellsStmt self.old.left self.new.left tree) }
-        ensures shorter { IfOk result (λ _. length self.new.left < length self.old.left) }
-    {
-        let place = self.skip_word();
-        let queue = self.name()?;
-        self.expect(Mark::Comma)?;
-        let limit = self.expression(alloc, false)?;
-        let statement = self.call_end(alloc, place, Call::Receive(queue, limit))?;
-        Ok(statement)
-    }
-
-    /// Reads a `take`.
-    #[tactic(auto, using(crate::proofs::StatementRows::states_take, crate::proofs::Steps::read_some))]
-    pub fn take_statement(&mut self, alloc: Global) -> Result<Stmt, Halt>
-        requires word { next_of word_in self.old ≡ Some word.Take }
-        ensures fate { (parts : List Part) → Follows result (ahead (Statements ∷ parts) self.old) (ahead (Statements ∷ parts) self.new) self.new }
-        ensures tree { IfOk result (λ tree. SpellsStmt self.old.left self.new.left tree) }
-        ensures shorter { IfOk result (λ _. length self.new.left < length self.old.left) }
-    {
-        let place = self.skip_word();
-        let semaphore = self.name()?;
-        self.expect(Mark::Comma)?;
-        let limit = self.expression(alloc, false)?;
-        let statement = self.call_end(alloc, place, Call::Take(semaphore, limit))?;
-        Ok(statement)
-    }
-
-    /// Reads a `give`.
-    #[tactic(auto, using(crate::proofs::StatementRows::states_give, crate::proofs::Steps::read_some))]
-    pub fn give_statement(&mut self, alloc: Global) -> Result<Stmt, Halt>
-        requires word { next_of word_in self.old ≡ Some word.Give }
-        ensures fate { (parts : List Part) → Follows result (ahead (Statements ∷ parts) self.old) (ahead (Statements ∷ parts) self.new) self.new }
-        ensures tree { IfOk result (λ tree. SpellsStmt self.old.left self.new.left tree) }
-        ensures shorter { IfOk result (λ _. length self.new.left < length self.old.left) }
-    {
-        let place = self.skip_word();
-        let semaphore = self.name()?;
-        let statement = self.call_end(alloc, place, Call::Give(semaphore))?;
-        Ok(statement)
-    }
-
-    /// Reads a `now`.
-    #[tactic(auto, using(crate::proofs::StatementRows::states_now, crate::proofs::Steps::read_some))]
-    pub fn now_statement(&mut self, alloc: Global) -> Result<Stmt, Halt>
-        requires word { next_of word_in self.old ≡ Some word.Now }
-        ensures fate { (parts : List Part) → Follows result (ahead (Statements ∷ parts) self.old) (ahead (Statements ∷ parts) self.new) self.new }
-        ensures tree { IfOk result (λ tree. SpellsStmt self.old.left self.new.left tree) }
-        ensures shorter { IfOk result (λ _. length self.new.left < length self.old.left) }
-    {
-        let place = self.skip_word();
-        let statement = self.call_end(alloc, place, Call::Now)?;
-        Ok(statement)
-    }
-
-    /// Reads a `yield`.
-    #[tactic(auto, using(crate::proofs::StatementRows::states_yield, crate::proofs::Steps::read_some))]
-    pub fn yield_statement(&mut self, alloc: Global) -> Result<Stmt, Halt>
-        requires word { next_of word_in self.old ≡ Some word.Yield }
-        ensures fate { (parts : List Part) → Follows result (ahead (Statements ∷ parts) self.old) (ahead (Statements ∷ parts) self.new) self.new }
-        ensures tree { IfOk result (λ tree. SpellsStmt self.old.left self.new.left tree) }
-        ensures shorter { IfOk result (λ _. length self.new.left < length self.old.left) }
-    {
-        let place = self.skip_word();
-        let statement = self.call_end(alloc, place, Call::Yield)?;
-        Ok(statement)
-    }
-
-    /// Reads a `waiting`.
-    #[tactic(auto, using(crate::proofs::StatementRows::states_waiting, crate::proofs::Steps::read_some))]
-    pub fn waiting_statement(&mut self, alloc: Global) -> Result<Stmt, Halt>
-        requires word { next_of word_in self.old ≡ Some word.Waiting }
-        ensures fate { (parts : List Part) → Follows result (ahead (Statements ∷ parts) self.old) (ahead (Statements ∷ parts) self.new) self.new }
-        ensures tree { IfOk result (λ tree. SpellsStmt self.old.left self.new.left tree) }
-        ensures shorter { IfOk result (λ _. length self.new.left < length self.old.left) }
-    {
-        let place = self.skip_word();
-        let queue = self.name()?;
-        let statement = self.call_end(alloc, place, Call::Waiting(queue))?;
+        let call = self.call(alloc, word, slots)?;
+        let statement = self.call_end(alloc, place, call)?;
         Ok(statement)
     }
 }

@@ -6,7 +6,7 @@ ghost use Rattle.thread_text.specs.Kinds.{name_in, number_in, word_in, operator_
 use thread_tree::{Mark, Op, Text, Token, Word};
 
 /// Whether the token is this mark.
-#[tactic(auto, using(crate::proofs::Tags::same_mark), unfolding(thread_tree::specs::Grammar::is_mark))]
+#[tactic(auto, using(grammar_laws::proofs::Callers::same_mark), unfolding(thread_tree::specs::Grammar::is_mark))]
 pub fn is_mark(token: &Token, mark: Mark) -> bool
     ensures value { result ≡ is_mark mark token.now }
 {
@@ -21,7 +21,7 @@ pub fn is_mark(token: &Token, mark: Mark) -> bool
 }
 
 /// Whether the token is this word.
-#[tactic(auto, using(crate::proofs::Tags::same_word), unfolding(thread_tree::specs::Grammar::is_word))]
+#[tactic(auto, using(grammar_laws::proofs::Callers::same_word), unfolding(thread_tree::specs::Grammar::is_word))]
 pub fn is_word(token: &Token, word: Word) -> bool
     ensures value { result ≡ is_word word token.now }
 {

@@ -1,10 +1,12 @@
-//! The text of a thread program: from bytes to its tree, and back.
+//! The text of a thread program, from bytes to its tree.
 //!
-//! [`parse`] answers the tree that a text spells, or the first fault at its place; [`print_tree`]
-//! writes the canonical text of a tree. `docs/LANGUAGE.md` has the grammar and the faults.
+//! [`parse`] answers the tree that a text spells, or the first fault at its place; [`print_tree`] of `thread_print` goes
+//! the other way.
+//! `docs/LANGUAGE.md` has the grammar and the faults.
 #![tactic(auto)]
 
 mod bounds;
+mod building;
 mod calls;
 mod cursor;
 mod declarations;
@@ -14,15 +16,13 @@ mod halt;
 mod kinds;
 mod lists;
 mod memory;
-mod no_memory;
+mod operand;
 mod operators;
 mod parsing;
-mod printer;
 mod statements;
 mod transactions;
 
 pub use fault::TextFault;
 use halt::Halt;
-pub use no_memory::NoMemory;
 pub use parsing::parse;
-pub use printer::print_tree;
+pub use thread_print::{NoMemory, print_tree};

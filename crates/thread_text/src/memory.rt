@@ -4,7 +4,7 @@ ghost use Rattle.thread_text.specs.declared.halt.Halt.TheVariants.{NoMemory};
 use crate::Halt;
 use arrayvec::ArrayVec;
 use std::alloc::Global;
-use thread_tree::Text;
+use thread_tree::{Box, Text};
 
 /// Adds an item at the end.
 pub fn add<T: Drop>(items: &mut Vec<T>, item: T) -> Result<(), Halt>
@@ -19,7 +19,7 @@ pub fn add<T: Drop>(items: &mut Vec<T>, item: T) -> Result<(), Halt>
 
 /// The value in a box of its own.
 pub fn boxed<T: Drop>(alloc: Global, value: T) -> Result<Box<T>, Halt>
-    ensures ok { IfOk result (λ b. b.value ≡ value) }
+    ensures ok { IfOk result (λ b. b ≡ value) }
     ensures memory { IfErr result (λ e. e ≡ NoMemory) }
 {
     match Box::new(alloc, value) {

@@ -1,10 +1,9 @@
-ghost use Rattle.std.specs.Prelude.{◌≡◌, ◌<◌, ◌-◌, ◌^◌, IfOk, length, [], List};
-ghost use Rattle.thread_tree.specs.Grammar.{IsProgram};
+ghost use Rattle.std.specs.Prelude.{◌≡◌, ◌<◌, ◌-◌, ◌^◌, IfOk, IfErr, length, [], List};
 ghost use Rattle.thread_tree.specs.SpellingOfDeclarations.{SpellsProgram};
 ghost use Rattle.thread_tokens.specs.Scan.{scan_of};
+ghost use Rattle.thread_print.specs.Rescanned.{IsParsed};
 ghost use Rattle.thread_text.specs.Fate.{Whole, StuckAt, LongAt};
-ghost use Rattle.thread_tokens.specs.declared.ending.Ending.TheVariants as ending;
-ghost use Rattle.thread_text.specs.Refusals.{tokens_of, IfExpected, IfTooLong, IfBad, IfNumber, IsExpected, IsTooLong, IsEndedBy};
+ghost use Rattle.thread_text.specs.Refusals.{Explains};
 ghost use Rattle.thread_text.specs.Verdict.{Answers, Faulty, verdict, owed_at, whole_at, stuck_at, long_at};
 
 use crate::cursor::Cursor;
@@ -25,14 +24,12 @@ pub fn parse(alloc: Global, text: &[u8]) -> Result<Tree, TextFault>
     // What is read is spelled so, with the names of the text.
     ensures ok { IfOk result (λ tree. SpellsProgram (scan_of text.now).tokens tree.decls) }
     ensures names { IfOk result (λ tree. tree.names ≡ (scan_of text.now).names) }
-    ensures program { IfOk result (λ _. IsProgram (tokens_of (scan_of text.now).tokens)) }
+    // So it can be printed and read again.
+    ensures parsed { IfOk result IsParsed }
     // Which fault it is, and that there is none where it is read.
     ensures answer { Answers result (verdict (scan_of text.now).tokens (scan_of text.now).ending) }
     // What a fault says of the grammar.
-    ensures expected { IfExpected result (λ place. IsExpected (scan_of text.now).tokens (scan_of text.now).ending place) }
-    ensures too_long { IfTooLong result (λ place. IsTooLong (scan_of text.now).tokens (scan_of text.now).ending place) }
-    ensures bad { IfBad result (λ place. IsEndedBy (scan_of text.now).tokens (scan_of text.now).ending (ending.BadToken place)) }
-    ensures number { IfNumber result (λ place. IsEndedBy (scan_of text.now).tokens (scan_of text.now).ending (ending.NumberTooLarge place)) }
+    ensures explained { IfErr result (Explains (scan_of text.now).tokens (scan_of text.now).ending) }
 {
     answered(alloc, text)
 }

@@ -12,7 +12,7 @@ use crate::Halt;
 use crate::cursor::Cursor;
 use crate::memory::add;
 use std::alloc::Global;
-use thread_tree::{At, Block, List, Mark, Stmt, TBlock, Word};
+use thread_tree::{At, Block, List, Mark, Stmt, TBlock, Word, shape};
 
 impl<'a> Cursor<'a> {
     /// Reads a block.
@@ -47,6 +47,9 @@ impl<'a> Cursor<'a> {
         let Some(word) = self.word() else {
             return self.named_statement(alloc);
         };
+        if let Some(slots) = shape(word) {
+            return self.call_statement(alloc, word, slots);
+        }
         match word {
             Word::Let => self.let_statement(alloc),
             Word::If => self.if_statement(alloc),
@@ -55,19 +58,6 @@ impl<'a> Cursor<'a> {
             Word::Break => self.break_statement(),
             Word::Return => self.return_statement(alloc),
             Word::Atomic => self.atomic_statement(alloc),
-            Word::Print => self.print_statement(alloc),
-            Word::Spawn => self.spawn_statement(alloc),
-            Word::Delete => self.delete_statement(alloc),
-            Word::Delay => self.delay_statement(alloc),
-            Word::Setprio => self.setprio_statement(alloc),
-            Word::Getprio => self.getprio_statement(alloc),
-            Word::Send => self.send_statement(alloc),
-            Word::Receive => self.receive_statement(alloc),
-            Word::Take => self.take_statement(alloc),
-            Word::Give => self.give_statement(alloc),
-            Word::Now => self.now_statement(alloc),
-            Word::Yield => self.yield_statement(alloc),
-            Word::Waiting => self.waiting_statement(alloc),
             _ => Err(Halt::Stuck),
         }
     }

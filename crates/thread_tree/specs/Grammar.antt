@@ -6,8 +6,11 @@ use Rattle.thread_tree.specs.declared.token.Mark.{Mark}
 use Rattle.thread_tree.specs.declared.token.Mark.TheVariants.{OpenBrace, CloseBrace, OpenParenthesis, CloseParenthesis, OpenBracket, CloseBracket, Semicolon, Comma, Colon, Dot, Equals, Arrow}
 use Rattle.thread_tree.specs.declared.token.Token.{Token}
 use Rattle.thread_tree.specs.declared.token.Token.TheVariants as token
+use Rattle.thread_tree.specs.declared.slot.Slot.{Slot}
+use Rattle.thread_tree.specs.declared.slot.Slot.TheVariants.{Name, Value, Whom, Items, Application}
 use Rattle.thread_tree.specs.declared.token.Word.{Word}
 use Rattle.thread_tree.specs.declared.token.Word.TheVariants as word
+use Rattle.thread_tree.specs.Pieces.{shape}
 use Rattle.thread_tree.specs.Parts.{Part, TheMark, TheWord, AName, ANumber, MoreNames, Channel, Parameters, Numbers, MoreNumbers, ABlock, Statements, Otherwise, AfterName, Assigned, AfterAssigned, Returned, AtomicTo, To, AnItem, MoreItems, Arguments, MoreExpressions, AWho, ATBlock, TStatements, TOtherwise, AfterTName, TAssigned, MoreField, Values, Expression, Inner, After, Dots, MoreDots}
 
 -- a number of its own for each mark
@@ -110,29 +113,32 @@ declared_by word.Thread = Some (AName ∷ TheMark OpenParenthesis ∷ Parameters
 declared_by word.Start = Some (AName ∷ TheMark OpenParenthesis ∷ Numbers ∷ TheMark Semicolon ∷ [])
 declared_by _ = None
 
--- what follows the first word of a statement: it, and the further statements
+-- what follows the word of a call with these places, up to its end
+abbrev pub row : List Slot → List Part
+row [] = To ∷ []
+row (Name needed ∷ []) = AName ∷ To ∷ []
+row (Name needed ∷ slot ∷ slots) = AName ∷ TheMark Comma ∷ row (slot ∷ slots)
+row (Value ∷ []) = Expression false To ∷ []
+row (Value ∷ slot ∷ slots) = Expression false (TheMark Comma) ∷ row (slot ∷ slots)
+row (Whom ∷ []) = AWho To ∷ []
+row (Whom ∷ slot ∷ slots) = AWho (TheMark Comma) ∷ row (slot ∷ slots)
+row (Items ∷ slots) = AnItem ∷ []
+row (Application ∷ slots) = AName ∷ TheMark OpenParenthesis ∷ Arguments ∷ To ∷ []
+
+-- what follows the first word of a statement that is no call: it, and the further statements
+unfoldable pub plain_by : Word → Option (List Part)
+plain_by word.Let = Some (AName ∷ TheMark Equals ∷ Expression false (TheMark Semicolon) ∷ Statements ∷ [])
+plain_by word.If = Some (Expression false ABlock ∷ Otherwise ∷ [])
+plain_by word.While = Some (Expression false ABlock ∷ Statements ∷ [])
+plain_by word.Ploop = Some (ABlock ∷ Statements ∷ [])
+plain_by word.Break = Some (TheMark Semicolon ∷ Statements ∷ [])
+plain_by word.Return = Some (Returned ∷ Statements ∷ [])
+plain_by word.Atomic = Some (AtomicTo ∷ Statements ∷ [])
+plain_by _ = None
+
+-- what follows the first word of a statement, a call by the places behind its word
 unfoldable pub stated_by : Word → Option (List Part)
-stated_by word.Let = Some (AName ∷ TheMark Equals ∷ Expression false (TheMark Semicolon) ∷ Statements ∷ [])
-stated_by word.If = Some (Expression false ABlock ∷ Otherwise ∷ [])
-stated_by word.While = Some (Expression false ABlock ∷ Statements ∷ [])
-stated_by word.Ploop = Some (ABlock ∷ Statements ∷ [])
-stated_by word.Break = Some (TheMark Semicolon ∷ Statements ∷ [])
-stated_by word.Return = Some (Returned ∷ Statements ∷ [])
-stated_by word.Atomic = Some (AtomicTo ∷ Statements ∷ [])
-stated_by word.Print = Some (AnItem ∷ Statements ∷ [])
-stated_by word.Spawn = Some (AName ∷ TheMark OpenParenthesis ∷ Arguments ∷ To ∷ Statements ∷ [])
-stated_by word.Delete = Some (AWho To ∷ Statements ∷ [])
-stated_by word.Delay = Some (Expression false To ∷ Statements ∷ [])
-stated_by word.Setprio = Some (AWho (TheMark Comma) ∷ Expression false To ∷ Statements ∷ [])
-stated_by word.Getprio = Some (AWho To ∷ Statements ∷ [])
-stated_by word.Send = Some (AName ∷ TheMark Comma ∷ Expression false (TheMark Comma) ∷ Expression false To ∷ Statements ∷ [])
-stated_by word.Receive = Some (AName ∷ TheMark Comma ∷ Expression false To ∷ Statements ∷ [])
-stated_by word.Take = Some (AName ∷ TheMark Comma ∷ Expression false To ∷ Statements ∷ [])
-stated_by word.Give = Some (AName ∷ To ∷ Statements ∷ [])
-stated_by word.Now = Some (To ∷ Statements ∷ [])
-stated_by word.Yield = Some (To ∷ Statements ∷ [])
-stated_by word.Waiting = Some (AName ∷ To ∷ Statements ∷ [])
-stated_by _ = None
+stated_by w = elim (shape w) [ Some slots ↦ Some (row slots ++ Statements ∷ []) | None ↦ plain_by w ]
 
 -- the same for the statements of a transaction
 unfoldable pub transacted_by : Word → Option (List Part)

@@ -1,9 +1,8 @@
 -- The kinds of a thread's actions, and what each leaves in the thread's records.
-use Rattle.std.specs.Prelude.{ℕ, ◌+◌, ◌-◌, ◌*◌, Bool, true, false, ◌==◌, ◌||◌, if◌then◌else◌, List, [], ◌∷◌, length, map, flat_map, Option, Some, None, slice_index}
+use Rattle.std.specs.Prelude.{ℕ, ◌+◌, ◌-◌, ◌*◌, Bool, true, false, ◌==◌, ◌||◌, if◌then◌else◌, List, [], ◌∷◌, ◌++◌, length, map, flat_map, Option, Some, None, slice_index}
 use Rattle.thread_tree.specs.declared.place.At.{At}
 use Rattle.thread_tree.specs.declared.expr.Expr.{Expr}
 use Rattle.thread_tree.specs.declared.action.Call.{Call}
-use Rattle.thread_tree.specs.declared.action.Call.TheVariants as call
 use Rattle.thread_tree.specs.declared.action.Item.{Item}
 use Rattle.thread_tree.specs.declared.action.Item.TheVariants as item
 use Rattle.thread_tree.specs.declared.action.Who.{Who}
@@ -11,6 +10,9 @@ use Rattle.thread_tree.specs.declared.action.Who.TheVariants as who
 use Rattle.thread_tree.specs.declared.block.Stmt.{Stmt, out-Stmt}
 use Rattle.thread_tree.specs.declared.block.Stmt.TheOpen.{Stmt-F}
 use Rattle.thread_tree.specs.declared.block.Stmt.TheOpen as stmt
+use Rattle.thread_tree.specs.declared.token.Word.{Word}
+use Rattle.thread_tree.specs.declared.token.Word.TheVariants as word
+use Rattle.thread_tree.specs.Pieces.{Piece, named, valued, whom, itemized, applied, word_of, pieces}
 
 -- the kinds of what isn't a call
 abbrev pub turn_kind : ℕ
@@ -22,21 +24,26 @@ end_kind = 15
 abbrev pub atomic_kind : ℕ
 atomic_kind = 16
 
+-- the kind of a call by its word
+abbrev pub kind_of_word : Word → ℕ
+kind_of_word word.Print = 1
+kind_of_word word.Spawn = 2
+kind_of_word word.Delete = 3
+kind_of_word word.Delay = 4
+kind_of_word word.Setprio = 5
+kind_of_word word.Getprio = 6
+kind_of_word word.Send = 7
+kind_of_word word.Receive = 8
+kind_of_word word.Take = 9
+kind_of_word word.Give = 10
+kind_of_word word.Now = 11
+kind_of_word word.Yield = 12
+kind_of_word word.Waiting = 13
+kind_of_word _ = 0
+
 -- the kind of a call
 abbrev pub kind_of_call : Call → ℕ
-kind_of_call (call.Print items) = 1
-kind_of_call (call.Spawn template arguments) = 2
-kind_of_call (call.Delete whom) = 3
-kind_of_call (call.Delay ticks) = 4
-kind_of_call (call.Setprio whom priority) = 5
-kind_of_call (call.Getprio whom) = 6
-kind_of_call (call.Send queue value limit) = 7
-kind_of_call (call.Receive queue limit) = 8
-kind_of_call (call.Take semaphore limit) = 9
-kind_of_call (call.Give semaphore) = 10
-kind_of_call call.Now = 11
-kind_of_call call.Yield = 12
-kind_of_call (call.Waiting queue) = 13
+kind_of_call c = kind_of_word (word_of c)
 
 -- how many results the kinds have, from 1 on
 abbrev pub results : List ℕ
@@ -93,21 +100,23 @@ abbrev pub operands_of_item : Item → List Expr
 operands_of_item (item.Text place text) = []
 operands_of_item (item.Value place e) = e ∷ []
 
+-- the expressions of a piece
+abbrev pub operands_of_piece : Piece → List Expr
+operands_of_piece (named needed name) = []
+operands_of_piece (valued e) = e ∷ []
+operands_of_piece (whom w) = operands_of_who w
+operands_of_piece (itemized items) = flat_map operands_of_item items
+operands_of_piece (applied template arguments) = arguments
+
+-- the expressions of pieces one after another
+abbrev pub operands_of_pieces : List Piece → List Expr
+operands_of_pieces [] = []
+operands_of_pieces (p ∷ []) = operands_of_piece p
+operands_of_pieces (p ∷ q ∷ ps) = operands_of_piece p ++ operands_of_pieces (q ∷ ps)
+
 -- the expressions of a call, in order of the text
 abbrev pub operands_of_call : Call → List Expr
-operands_of_call (call.Print items) = flat_map operands_of_item items
-operands_of_call (call.Spawn template arguments) = arguments
-operands_of_call (call.Delete whom) = operands_of_who whom
-operands_of_call (call.Delay ticks) = ticks ∷ []
-operands_of_call (call.Setprio whom priority) = flat_map (λ es. es) (operands_of_who whom ∷ (priority ∷ []) ∷ [])
-operands_of_call (call.Getprio whom) = operands_of_who whom
-operands_of_call (call.Send queue value limit) = value ∷ limit ∷ []
-operands_of_call (call.Receive queue limit) = limit ∷ []
-operands_of_call (call.Take semaphore limit) = limit ∷ []
-operands_of_call (call.Give semaphore) = []
-operands_of_call call.Now = []
-operands_of_call call.Yield = []
-operands_of_call (call.Waiting queue) = []
+operands_of_call c = operands_of_pieces (pieces c)
 
 -- the names that take the results
 abbrev pub taking : List At → List ℕ

@@ -1,4 +1,7 @@
 pub mod formers
+pub mod Expressions
+pub mod Few
+pub mod Pieces
 pub mod Parts
 pub mod Grammar
 pub mod Levels

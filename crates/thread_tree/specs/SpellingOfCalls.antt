@@ -9,53 +9,82 @@ use Rattle.thread_tree.specs.declared.token.Placed.{Placed}
 use Rattle.thread_tree.specs.declared.token.Token.{Token}
 use Rattle.thread_tree.specs.declared.token.Token.TheVariants as token
 use Rattle.thread_tree.specs.declared.token.Word.TheVariants as word
-use Rattle.thread_tree.specs.Spelling.{Takes, TakesAny, TakesMark, SpellsName, SpellsNames, SpellsExpr, Separated}
+use Rattle.thread_tree.specs.Pieces.{Piece, named, valued, whom, itemized, applied, word_of, pieces}
+use Rattle.thread_tree.specs.declared.needed.Needed.{Needed}
+use Rattle.thread_tree.specs.Spelling.{Placing, Takes, TakesAny, TakesMark, SpellsNameBy, SpellsNamesBy, SpellsExprBy, Separated}
 use Rattle.thread_tree.specs.declared.action.Call.{Call}
-use Rattle.thread_tree.specs.declared.action.Call.TheVariants as call
 use Rattle.thread_tree.specs.declared.action.Item.{Item}
 use Rattle.thread_tree.specs.declared.action.Item.TheVariants as item
 use Rattle.thread_tree.specs.declared.action.Who.{Who}
 use Rattle.thread_tree.specs.declared.action.Who.TheVariants as who
 use Rattle.thread_tree.specs.declared.name.Text.{Text}
 
--- the first token stands at this place
-pub record BeginsAt (place : Place) (before : List Placed) : Type 0 where
+-- the first token stands for one at this place
+pub record BeginsBy (T : Placing) (place : Place) (before : List Placed) : Type 0 where
   pub token : Token
   pub after : List Placed
-  pub first : before ≡ record { token = token; place = place } ∷ after
+  pub first : T token place before after
 
 -- an item of a `print`: a string, or a value
-pub data SpellsItem : List Placed → List Placed → Item → Type 0 where
-  text : {before after : List Placed} {place : Place} {x : Text} → Takes (token.Text x) place before after → SpellsItem before after (item.Text place x)
-  value : {before after : List Placed} {place : Place} {e : Expr} → BeginsAt place before → SpellsExpr false before after e → SpellsItem before after (item.Value place e)
+pub data SpellsItemBy (T : Placing) : List Placed → List Placed → Item → Type 0 where
+  text : {before after : List Placed} {place : Place} {x : Text} → T (token.Text x) place before after → SpellsItemBy T before after (item.Text place x)
+  value : {before after : List Placed} {place : Place} {e : Expr} → BeginsBy T place before → SpellsExprBy T false before after e → SpellsItemBy T before after (item.Value place e)
 
 -- `self`, or the number of a thread
-pub data SpellsWho : List Placed → List Placed → Who → Type 0 where
-  own : {before after : List Placed} → TakesAny (token.Word word.Own) before after → SpellsWho before after who.Own
-  of : {before after : List Placed} {e : Expr} → SpellsExpr false before after e → SpellsWho before after (who.Of e)
+pub data SpellsWhoBy (T : Placing) : List Placed → List Placed → Who → Type 0 where
+  own : {before after : List Placed} → TakesAny (token.Word word.Own) before after → SpellsWhoBy T before after who.Own
+  of : {before after : List Placed} {e : Expr} → SpellsExprBy T false before after e → SpellsWhoBy T before after (who.Of e)
 
 -- arguments in parentheses, without the opening one
-pub data SpellsArguments : List Placed → List Placed → List Expr → Type 0 where
-  no_arguments : {before after : List Placed} → TakesMark mark.CloseParenthesis before after → SpellsArguments before after []
-  arguments : {before a after : List Placed} {es : List Expr} → Separated (SpellsExpr false) before a es → TakesMark mark.CloseParenthesis a after → SpellsArguments before after es
+pub data SpellsArgumentsBy (T : Placing) : List Placed → List Placed → List Expr → Type 0 where
+  no_arguments : {before after : List Placed} → TakesMark mark.CloseParenthesis before after → SpellsArgumentsBy T before after []
+  arguments : {before a after : List Placed} {es : List Expr} → Separated (SpellsExprBy T false) before a es → TakesMark mark.CloseParenthesis a after → SpellsArgumentsBy T before after es
 
 -- the end of a call: the names that get its results, and the semicolon
-pub data SpellsResults : List Placed → List Placed → List At → Type 0 where
-  no_results : {before after : List Placed} → TakesMark mark.Semicolon before after → SpellsResults before after []
-  results : {before a b after : List Placed} {names : List At} → TakesMark mark.Arrow before a → SpellsNames a b names → TakesMark mark.Semicolon b after → SpellsResults before after names
+pub data SpellsResultsBy (T : Placing) : List Placed → List Placed → List At → Type 0 where
+  no_results : {before after : List Placed} → TakesMark mark.Semicolon before after → SpellsResultsBy T before after []
+  results : {before a b after : List Placed} {names : List At} → TakesMark mark.Arrow before a → SpellsNamesBy T a b names → TakesMark mark.Semicolon b after → SpellsResultsBy T before after names
+
+-- a piece of a call
+pub data SpellsPieceBy (T : Placing) : List Placed → List Placed → Piece → Type 0 where
+  name_piece : {before after : List Placed} {needed : Needed} {name : At} → SpellsNameBy T before after name → SpellsPieceBy T before after (named needed name)
+  value_piece : {before after : List Placed} {e : Expr} → SpellsExprBy T false before after e → SpellsPieceBy T before after (valued e)
+  whom_piece : {before after : List Placed} {w : Who} → SpellsWhoBy T before after w → SpellsPieceBy T before after (whom w)
+  items_piece : {before after : List Placed} {items : List Item} → Separated (SpellsItemBy T) before after items → SpellsPieceBy T before after (itemized items)
+  applied_piece : {before a b after : List Placed} {template : At} {es : List Expr} → SpellsNameBy T before a template → TakesMark mark.OpenParenthesis a b → SpellsArgumentsBy T b after es → SpellsPieceBy T before after (applied template es)
+
+-- the pieces of a call with commas between them, if it has any
+pub data SpellsPiecesBy (T : Placing) : List Placed → List Placed → List Piece → Type 0 where
+  no_pieces : {before : List Placed} → SpellsPiecesBy T before before []
+  some_pieces : {before after : List Placed} {ps : List Piece} → Separated (SpellsPieceBy T) before after ps → SpellsPiecesBy T before after ps
 
 -- a call whose word stands at this place, without its end
-pub data SpellsCall (place : Place) : List Placed → List Placed → Call → Type 0 where
-  print : {before a after : List Placed} {items : List Item} → Takes (token.Word word.Print) place before a → Separated SpellsItem a after items → SpellsCall place before after (call.Print items)
-  spawn : {before a b c after : List Placed} {thread : At} {es : List Expr} → Takes (token.Word word.Spawn) place before a → SpellsName a b thread → TakesMark mark.OpenParenthesis b c → SpellsArguments c after es → SpellsCall place before after (call.Spawn thread es)
-  delete : {before a after : List Placed} {w : Who} → Takes (token.Word word.Delete) place before a → SpellsWho a after w → SpellsCall place before after (call.Delete w)
-  delay : {before a after : List Placed} {e : Expr} → Takes (token.Word word.Delay) place before a → SpellsExpr false a after e → SpellsCall place before after (call.Delay e)
-  setprio : {before a b c after : List Placed} {w : Who} {e : Expr} → Takes (token.Word word.Setprio) place before a → SpellsWho a b w → TakesMark mark.Comma b c → SpellsExpr false c after e → SpellsCall place before after (call.Setprio w e)
-  getprio : {before a after : List Placed} {w : Who} → Takes (token.Word word.Getprio) place before a → SpellsWho a after w → SpellsCall place before after (call.Getprio w)
-  send : {before a b c d f after : List Placed} {queue : At} {v e : Expr} → Takes (token.Word word.Send) place before a → SpellsName a b queue → TakesMark mark.Comma b c → SpellsExpr false c d v → TakesMark mark.Comma d f → SpellsExpr false f after e → SpellsCall place before after (call.Send queue v e)
-  receive : {before a b c after : List Placed} {queue : At} {e : Expr} → Takes (token.Word word.Receive) place before a → SpellsName a b queue → TakesMark mark.Comma b c → SpellsExpr false c after e → SpellsCall place before after (call.Receive queue e)
-  take : {before a b c after : List Placed} {semaphore : At} {e : Expr} → Takes (token.Word word.Take) place before a → SpellsName a b semaphore → TakesMark mark.Comma b c → SpellsExpr false c after e → SpellsCall place before after (call.Take semaphore e)
-  give : {before a after : List Placed} {semaphore : At} → Takes (token.Word word.Give) place before a → SpellsName a after semaphore → SpellsCall place before after (call.Give semaphore)
-  now : {before after : List Placed} → Takes (token.Word word.Now) place before after → SpellsCall place before after call.Now
-  yield : {before after : List Placed} → Takes (token.Word word.Yield) place before after → SpellsCall place before after call.Yield
-  waiting : {before a after : List Placed} {queue : At} → Takes (token.Word word.Waiting) place before a → SpellsName a after queue → SpellsCall place before after (call.Waiting queue)
+pub record SpellsCallBy (T : Placing) (place : Place) (before after : List Placed) (c : Call) : Type 0 where
+  pub behind : List Placed
+  pub word : T (token.Word (word_of c)) place before behind
+  pub operands : SpellsPiecesBy T behind after (pieces c)
+
+-- the same with each token at the place that the tree has for it
+abbrev pub BeginsAt : Place → List Placed → Type 0
+BeginsAt = BeginsBy Takes
+
+abbrev pub SpellsItem : List Placed → List Placed → Item → Type 0
+SpellsItem = SpellsItemBy Takes
+
+abbrev pub SpellsWho : List Placed → List Placed → Who → Type 0
+SpellsWho = SpellsWhoBy Takes
+
+abbrev pub SpellsArguments : List Placed → List Placed → List Expr → Type 0
+SpellsArguments = SpellsArgumentsBy Takes
+
+abbrev pub SpellsResults : List Placed → List Placed → List At → Type 0
+SpellsResults = SpellsResultsBy Takes
+
+abbrev pub SpellsPiece : List Placed → List Placed → Piece → Type 0
+SpellsPiece = SpellsPieceBy Takes
+
+abbrev pub SpellsPieces : List Placed → List Placed → List Piece → Type 0
+SpellsPieces = SpellsPiecesBy Takes
+
+abbrev pub SpellsCall : Place → List Placed → List Placed → Call → Type 0
+SpellsCall = SpellsCallBy Takes

@@ -3,7 +3,7 @@ use Rattle.std.specs.Prelude.{ℕ, ◌+◌, ◌-◌, ◌*◌, ◌/◌, ◌%◌, 
 use Rattle.thread_tree.specs.declared.local.Local.{Local}
 use Rattle.thread_tree.specs.declared.expr.Op.{Op}
 use Rattle.thread_tree.specs.declared.expr.Op.TheVariants as op
-use Rattle.thread_tree.specs.declared.expr.Expr.{Expr}
+use Rattle.thread_tree.specs.declared.expr.Expr.{Expr, more_of-Expr, end_of-Expr}
 use Rattle.thread_tree.specs.declared.expr.Expr.TheVariants as expr
 
 -- the number of values: 2^32
@@ -53,8 +53,8 @@ abbrev pub value_of : List Local → Expr → ℕ
 value_of locals (expr.Num value) = value
 value_of locals (expr.Local at) = value_in locals at.name
 value_of locals (expr.Field field) = 0
-value_of locals (expr.Prefix' op p e) = applied op 0 (value_of locals e)
-value_of locals (expr.Binary' op p x q y) = applied op (value_of locals x) (value_of locals y)
+value_of locals (expr.Prefix' op p (more_of-Expr e end_of-Expr)) = applied op 0 (value_of locals e)
+value_of locals (expr.Binary' op p (more_of-Expr x end_of-Expr) q (more_of-Expr y end_of-Expr)) = applied op (value_of locals x) (value_of locals y)
 
 -- the values of expressions
 abbrev pub values_in : List Local → List Expr → List ℕ

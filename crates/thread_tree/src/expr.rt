@@ -1,4 +1,4 @@
-use crate::At;
+use crate::{At, Box};
 
 /// An operator. All but the last two stand between two operands.
 #[derive(Clone, Copy, Debug, Drop, PartialEq)]

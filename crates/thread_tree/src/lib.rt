@@ -6,22 +6,34 @@
 
 mod action;
 mod block;
+mod boxed;
 mod expr;
+mod few;
 mod list;
 mod local;
 mod name;
+mod needed;
+mod piece;
 mod place;
+mod shapes;
+mod slot;
 mod token;
 mod transaction;
 mod tree;
 
 pub use action::{Call, Item, Who};
 pub use block::{Block, Stmt};
+pub use boxed::Box;
 pub use expr::{Expr, FieldOf, Op};
+pub use few::Few;
 pub use list::List;
 pub use local::Local;
 pub use name::{Name, Text};
+pub use needed::Needed;
+pub use piece::Piece;
 pub use place::{At, Num, Place};
+pub use shapes::{pieces, shape, word_of};
+pub use slot::Slot;
 pub use token::{Mark, Placed, Token, Word};
 pub use transaction::{TBlock, TStmt};
 pub use tree::{Decl, Tree, discard};

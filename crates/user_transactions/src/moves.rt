@@ -34,9 +34,13 @@ pub(crate) fn value<N: Nv>(
     ensures few { work.old.operations ≤ 64 → work.new.operations ≤ 64 }
     ensures more { work.old.operations ≤ work.new.operations }
 {
-    let found = read(tx, program, work.locals.as_slice(), e, work.operations)?;
-    work.operations = found.operations;
-    Ok(found.value)
+    match read(tx, program, work.locals.as_slice(), e, work.operations) {
+        Ok(found) => {
+            work.operations = found.operations;
+            Ok(found.value)
+        }
+        Err(fault) => Err(fault),
+    }
 }
 
 // Gives the local of this name a new value; nothing changes where none has the name.

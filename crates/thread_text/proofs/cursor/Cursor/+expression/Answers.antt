@@ -1,4 +1,5 @@
-use Rattle.std.proofs.Common.{◌≡◌, Some, rules, arith}
+use Rattle.std.proofs.Common.{◌≡◌, Some, rules}
+use Rattle.thread_tree.specs.declared.expr.Expr.TheBlock as block
 use Rattle.thread_tree.specs.Spelling.{number, parenthesised, prefixed, tighter}
 use Rattle.thread_text.specs.Fate.{next_of}
 use Rattle.thread_text.specs.Kinds.{number_in}
@@ -17,4 +18,5 @@ pub parenthesised-returns-clause-tree : goal.parenthesised-returns-clause-tree
 parenthesised-returns-clause-tree t c = search (rules, parenthesised)
 
 pub prefixed-returns-clause-tree : goal.prefixed-returns-clause-tree
+unfolding block.shape-the_row-Expr-0 block.hidden-the_row-Expr-0 denote.Hole.Carrier.hidden
 prefixed-returns-clause-tree t c = search (rules, prefixed)

@@ -1,4 +1,4 @@
-use Rattle.std.proofs.Common.{◌≡◌, ◌≤◌, ◌<◌, ◌+◌, List, ◌∷◌, length, ◌-◌, ◌*◌}
+use Rattle.std.proofs.Common.{◌≡◌, ◌<◌, ◌+◌, List, ◌∷◌, length, ◌-◌, ◌*◌}
 use Rattle.thread_tree.specs.Parts.{Part, Inner, After}
 use Rattle.thread_tree.specs.Spelling.{SpellsLevel}
 use Rattle.thread_text.specs.Fate.{ahead, next_binding}

@@ -10,7 +10,7 @@ use Rattle.thread_text.proofs.cursor.Cursor.+statements.Goals as goal
 
 -- a word that begins no statement
 pub statement-returns-in_default-word-clause-fate : goal.statement-returns-in_default-word-clause-fate
-statement-returns-in_default-word-clause-fate t c = λ parts. statement_stuck parts _ c.in-Some.word (sym c.word.ensures.value ∙ c.in-Some.is) (states_nothing c.in-Some.word c.in_default-word.not-Let c.in_default-word.not-If c.in_default-word.not-While c.in_default-word.not-Ploop c.in_default-word.not-Break c.in_default-word.not-Return c.in_default-word.not-Atomic c.in_default-word.not-Print c.in_default-word.not-Spawn c.in_default-word.not-Delete c.in_default-word.not-Delay c.in_default-word.not-Setprio c.in_default-word.not-Getprio c.in_default-word.not-Send c.in_default-word.not-Receive c.in_default-word.not-Take c.in_default-word.not-Give c.in_default-word.not-Now c.in_default-word.not-Yield c.in_default-word.not-Waiting)
+statement-returns-in_default-word-clause-fate t c = λ parts. statement_stuck parts _ c.in-Some.word (sym c.word.ensures.value ∙ c.in-Some.is) (states_nothing c.in-Some.word (sym c.in_default-shape.ensures.shape) c.in_default-word.not-Let c.in_default-word.not-If c.in_default-word.not-While c.in_default-word.not-Ploop c.in_default-word.not-Break c.in_default-word.not-Return c.in_default-word.not-Atomic)
 
 pub block-stmts-init : goal.block-stmts-init
 block-stmts-init t c = (search rules, search rules, (c.open_block.new.self.left, c.in_ok-place.ensures.tree, search (rules, no_stmts)))

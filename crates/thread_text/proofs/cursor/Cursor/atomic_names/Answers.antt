@@ -1,4 +1,4 @@
-use Rattle.std.proofs.Common.{rules, refl}
+use Rattle.std.proofs.Common.{rules}
 use Rattle.thread_tree.specs.SpellingOfBlocks.{no_given, given}
 use Rattle.thread_text.proofs.cursor.Cursor.atomic_names.Goals as goal
 

@@ -1,4 +1,4 @@
-use Rattle.std.proofs.Common.{rules, refl}
+use Rattle.std.proofs.Common.{rules}
 use Rattle.thread_tree.specs.SpellingOfDeclarations.{no_channel, channel}
 use Rattle.thread_text.proofs.cursor.Cursor.channel.Goals as goal
 

@@ -1,5 +1,4 @@
-use Rattle.std.proofs.Common.{rules, arith}
-use Rattle.std.proofs.lemmas.Grind.{common_steps}
+use Rattle.std.proofs.Common.{rules}
 use Rattle.std.proofs.Common.{subst, ◌≡◌, None, []}
 use Rattle.thread_tree.specs.SpellingOfDeclarations.{SpellsDecls, no_decls}
 use Rattle.thread_text.specs.Fate.{next}

@@ -1,6 +1,6 @@
 use Rattle.std.proofs.Common.{◌≡◌, ◌∙◌, Some, ap, sym, rules}
 use Rattle.std.specs.Option.{option_copied}
-use Rattle.thread_tree.specs.SpellingOfCalls.{SpellsItem, text, value, BeginsAt}
+use Rattle.thread_tree.specs.SpellingOfCalls.{text, value}
 use Rattle.thread_text.specs.Fate.{next_of}
 use Rattle.thread_text.specs.Kinds.{text_in}
 use Rattle.thread_text.proofs.Taken.{text_took}

@@ -1,4 +1,4 @@
-use Rattle.std.proofs.Common.{rules, refl}
+use Rattle.std.proofs.Common.{rules}
 use Rattle.thread_tree.specs.declared.token.Word.TheVariants as word
 use Rattle.thread_tree.specs.SpellingOfTransactions.{tlet, tlet_new}
 use Rattle.thread_text.proofs.Layers.{tout_let, tout_letnew}

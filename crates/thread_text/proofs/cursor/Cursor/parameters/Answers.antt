@@ -1,4 +1,4 @@
-use Rattle.std.proofs.Common.{rules, refl}
+use Rattle.std.proofs.Common.{rules}
 use Rattle.thread_tree.specs.SpellingOfDeclarations.{no_parameters, parameters}
 use Rattle.thread_text.proofs.cursor.Cursor.parameters.Goals as goal
 

@@ -1,4 +1,4 @@
-use Rattle.std.proofs.Common.{rules, refl}
+use Rattle.std.proofs.Common.{rules}
 use Rattle.thread_tree.specs.SpellingOfCalls.{no_results, results}
 use Rattle.thread_text.proofs.cursor.Cursor.results.Goals as goal
 

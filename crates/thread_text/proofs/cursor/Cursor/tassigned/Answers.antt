@@ -1,4 +1,4 @@
-use Rattle.std.proofs.Common.{rules, refl}
+use Rattle.std.proofs.Common.{rules}
 use Rattle.thread_tree.specs.SpellingOfTransactions.{tset, tset_new}
 use Rattle.thread_text.proofs.Layers.{tout_set, tout_setnew}
 use Rattle.thread_text.proofs.cursor.Cursor.tassigned.Goals as goal

@@ -1,4 +1,4 @@
-use Rattle.std.proofs.Common.{rules, refl}
+use Rattle.std.proofs.Common.{rules}
 use Rattle.thread_tree.specs.SpellingOfTransactions.{no_values, values}
 use Rattle.thread_text.proofs.cursor.Cursor.values.Goals as goal
 

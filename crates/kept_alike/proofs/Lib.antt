@@ -1,5 +1,0 @@
-mod RowLaws
-mod KeptLaws
-mod LineLaws
-mod ServedSame
-mod TreeLaws

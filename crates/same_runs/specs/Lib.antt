@@ -1,3 +1,0 @@
-pub mod Bare
-pub mod BareStates
-pub mod Alike

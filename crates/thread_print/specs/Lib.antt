@@ -1,0 +1,4 @@
+pub mod Canonical
+pub mod CanonicalText
+pub mod Rescanned
+pub mod Wrote

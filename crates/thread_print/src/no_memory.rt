@@ -1,0 +1,3 @@
+/// No memory was left.
+#[derive(Clone, Copy, Debug, Drop, PartialEq)]
+pub struct NoMemory;
