@@ -1,0 +1,6 @@
+mod Agreement
+mod Expressions
+mod Statements
+mod Rows
+mod Types
+mod Induction
