@@ -2,4 +2,4 @@ use Rattle.text_bounds.proofs.Induction.{same}
 use Rattle.text_bounds.proofs.laws.bounds_by_tokens.Goals as goal
 
 pub returns : goal.returns
-returns c = same
+returns c = record { same = same }
