@@ -33,7 +33,7 @@ by_parts (Goes after counts) t ts = fate after counts ts
 by_parts Stuck t ts = StuckAt (t ∷ ts)
 by_parts Long t ts = LongAt (t ∷ ts)
 
-abbrev by_tokens : Option (List Part) → Tally → Placed → List Placed → Fate
+abbrev pub by_tokens : Option (List Part) → Tally → Placed → List Placed → Fate
 by_tokens (Some after) s t ts = if within s then tallied after s ts else LongAt (t ∷ ts)
 by_tokens None s t ts = StuckAt (t ∷ ts)
 
@@ -57,7 +57,7 @@ steps_parts (Goes after counts) t ts = refl
 steps_parts Stuck t ts = refl
 steps_parts Long t ts = refl
 
-steps_tokens : (found : Option (List Part)) (s : Tally) (t : Placed) (ts : List Placed) → by_tokens found s t ts ≡ (elim found [ Some after ↦ if within s then tallied after s ts else LongAt (t ∷ ts) | None ↦ StuckAt (t ∷ ts) ])
+pub steps_tokens : (found : Option (List Part)) (s : Tally) (t : Placed) (ts : List Placed) → by_tokens found s t ts ≡ (elim found [ Some after ↦ if within s then tallied after s ts else LongAt (t ∷ ts) | None ↦ StuckAt (t ∷ ts) ])
 steps_tokens (Some after) s t ts = refl
 steps_tokens None s t ts = refl
 

@@ -4,3 +4,4 @@ mod Statements
 mod Rows
 mod Types
 mod Induction
+mod First

@@ -1,5 +1,5 @@
 -- The bounds that a text has to keep, counted by its tokens alone.
-use Rattle.std.specs.Prelude.{ℕ, ◌+◌, ◌-◌, nat_le, Bool, true, false, if◌then◌else◌, List, [], ◌∷◌, Option, Some, None}
+use Rattle.std.specs.Prelude.{◌≡◌, ◌++◌, ℕ, ◌+◌, ◌-◌, nat_le, Bool, true, false, if◌then◌else◌, List, [], ◌∷◌, Option, Some, None}
 use Rattle.thread_tree.specs.declared.token.Mark.{Mark}
 use Rattle.thread_tree.specs.declared.token.Mark.TheVariants.{OpenBrace, CloseBrace, OpenParenthesis, CloseParenthesis, Dot}
 use Rattle.thread_tree.specs.declared.token.Placed.{Placed}
@@ -8,6 +8,7 @@ use Rattle.thread_tree.specs.declared.token.Token.TheVariants as token
 use Rattle.thread_tree.specs.declared.token.Word.TheVariants as word
 use Rattle.thread_tree.specs.Grammar.{advance}
 use Rattle.thread_tree.specs.Parts.{Part}
+use Rattle.grammar_laws.specs.Open.{bare, owed}
 use Rattle.thread_text.specs.Fate.{Fate, Whole, StuckAt, LongAt}
 
 -- how many operators and opening parentheses the expression at hand has so far, how many blocks are open, whether
@@ -56,3 +57,19 @@ tallied [] s [] = Whole
 tallied (part ∷ parts) s [] = StuckAt []
 tallied parts s (t ∷ ts) =
     elim (advance parts t.token) [ Some after ↦ if within (told t.token s) then tallied after (told t.token s) ts else LongAt (t ∷ ts) | None ↦ StuckAt (t ∷ ts) ]
+
+-- the tally behind some tokens, or `None` where one of them passes a bound
+unfoldable pub tally_of : List Placed → Tally → Option Tally
+tally_of [] s = Some s
+tally_of (t ∷ ts) s = if within (told t.token s) then tally_of ts (told t.token s) else None
+
+-- The token `t` of these, with `behind` behind it, is the first to pass a bound: those in front keep all bounds,
+-- it can stand behind them, and with it the tally isn't within the bounds.
+pub record PassesFirst (parts : List Part) (start : Tally) (tokens : List Placed) (t : Placed) (behind : List Placed) : Type 0 where
+  pub front : List Placed
+  pub after : List Part
+  pub before : Tally
+  pub whole : tokens ≡ front ++ t ∷ behind
+  pub can_stand : owed parts (bare (front ++ t ∷ [])) ≡ Some after
+  pub in_front : tally_of front start ≡ Some before
+  pub past_it : within (told t.token before) ≡ false
