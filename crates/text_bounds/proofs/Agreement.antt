@@ -1,9 +1,9 @@
 -- How the counts by the parts owed and those by the tokens agree.
-use Rattle.std.proofs.Common.{◌≡◌, ℕ, ◌+◌, ◌-◌, nat_le, nat_lt, Bool, true, false, if◌then◌else◌, List, [], ◌∷◌, ◌++◌, Option, Some, None, refl, sym, ap, ◌∙◌, arith}
+use Rattle.std.proofs.Common.{◌≡◌, ℕ, ◌+◌, ◌-◌, nat_le, nat_lt, Bool, true, false, if◌then◌else◌, List, [], ◌∷◌, ◌++◌, Option, Some, None, refl, arith}
 use Rattle.std.proofs.lemmas.Bool.Decides.{nat_tests}
 use Rattle.thread_tree.specs.declared.token.Mark.TheVariants as mark
 use Rattle.thread_tree.specs.declared.token.Word.TheVariants as word
-use Rattle.thread_tree.specs.Parts.{Part, TheMark, TheWord, AName, ANumber, MoreNames, Channel, Parameters, Numbers, MoreNumbers, ABlock, Statements, Otherwise, AfterName, Assigned, AfterAssigned, Returned, AtomicTo, To, AnItem, MoreItems, Arguments, MoreExpressions, AWho, ATBlock, TStatements, TOtherwise, AfterTName, TAssigned, MoreField, Values, Expression, Inner, After, Dots, MoreDots}
+use Rattle.thread_tree.specs.Parts.{Part, TheMark, TheWord, AName, MoreNames, ABlock, AfterName, Assigned, AfterAssigned, Returned, To, AnItem, MoreItems, Arguments, MoreExpressions, AWho, ATBlock, TAssigned, Values, Expression, Inner, After, Dots, MoreDots}
 use Rattle.thread_text.specs.Bounds.{Counts}
 use Rattle.text_bounds.specs.Tally.{Tally, anew, within}
 

@@ -1,16 +1,13 @@
 -- One token of an expression.
-use Rattle.std.proofs.Common.{◌≡◌, ℕ, ◌+◌, ◌-◌, nat_le, nat_lt, Bool, true, false, if◌then◌else◌, List, [], ◌∷◌, ◌++◌, Option, Some, None, refl, sym, ap, ◌∙◌}
-use Rattle.thread_tree.specs.declared.token.Mark.{Mark}
+use Rattle.std.proofs.Common.{◌≡◌, ◌+◌, nat_le, nat_lt, Bool, true, false, if◌then◌else◌, List, [], ◌∷◌, Some, None, refl, ap, ◌∙◌}
 use Rattle.thread_tree.specs.declared.token.Mark.TheVariants as mark
 use Rattle.thread_tree.specs.declared.token.Token.{Token}
 use Rattle.thread_tree.specs.declared.token.Token.TheVariants as token
-use Rattle.thread_tree.specs.declared.token.Word.{Word}
-use Rattle.thread_tree.specs.declared.token.Word.TheVariants as word
-use Rattle.thread_tree.specs.Parts.{Part, TheMark, TheWord, AName, ANumber, MoreNames, Channel, Parameters, Numbers, MoreNumbers, ABlock, Statements, Otherwise, AfterName, Assigned, AfterAssigned, Returned, AtomicTo, To, AnItem, MoreItems, Arguments, MoreExpressions, AWho, ATBlock, TStatements, TOtherwise, AfterTName, TAssigned, MoreField, Values, Expression, Inner, After, Dots, MoreDots}
-use Rattle.thread_text.specs.Bounds.{Counts, counted, afresh, one_operator, one_parenthesis, one_block, block_less, operand_counts, own_counts, open_counts, close_counts}
-use Rattle.text_bounds.specs.Tally.{Tally, anew, marked, told, within}
-use Rattle.thread_tree.specs.Grammar.{operand, behind_name, is_mark, mark_number, is_name, is_number, is_prefix, is_between, prefixes}
-use Rattle.text_bounds.proofs.Agreement.{Need, Nothing, Named, Fresh, Live, Begun, Called, Has, need, need_of, passing, nothing, renewing, keeping, ends, ends_by, ends_anew, closes, follows, stands, fits, Level, Agrees, plain, Kept, none, on, past, level_named, one_more, pick}
+use Rattle.thread_tree.specs.Parts.{Part, TheMark, ABlock, To, MoreItems, MoreExpressions, ATBlock, Inner, After}
+use Rattle.thread_text.specs.Bounds.{Counts, afresh, one_operator, one_parenthesis, operand_counts, own_counts}
+use Rattle.text_bounds.specs.Tally.{Tally, marked, told, within}
+use Rattle.thread_tree.specs.Grammar.{operand, behind_name, is_mark, mark_number, is_name, is_number, is_prefix, prefixes}
+use Rattle.text_bounds.proofs.Agreement.{Need, Nothing, Fresh, Live, Begun, Has, need, need_of, ends, ends_by, ends_anew, closes, follows, stands, fits, Level, plain, Kept, none, on, past, level_named, one_more, pick}
 
 -- what stands behind an expression, or a list, is itself one of those parts
 pub closes_stands : (next : Part) → closes next ≡ true → stands next ≡ true

@@ -6,7 +6,7 @@ use Rattle.thread_tree.specs.Grammar.{advance}
 use Rattle.thread_tree.specs.Parts.{Part}
 use Rattle.grammar_laws.specs.Open.{bare, owed}
 use Rattle.grammar_laws.proofs.Callers.{left}
-use Rattle.thread_text.specs.Fate.{Fate, Whole, StuckAt, LongAt, fate}
+use Rattle.thread_text.specs.Fate.{LongAt, fate}
 use Rattle.thread_text.specs.Verdict.{none_counted}
 use Rattle.text_bounds.specs.Tally.{Tally, told, within, tallied, none_tallied, tally_of, PassesFirst}
 use Rattle.text_bounds.proofs.Induction.{by_tokens, steps_tokens, same}

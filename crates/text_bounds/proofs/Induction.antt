@@ -1,5 +1,5 @@
 -- What becomes of tokens is the same by the parts owed and by the tokens alone.
-use Rattle.std.proofs.Common.{◌≡◌, ◌∙◌, ap, refl, Bool, true, false, if◌then◌else◌, List, [], ◌∷◌, ◌++◌, Option, Some, None, append-nil}
+use Rattle.std.proofs.Common.{◌≡◌, ◌∙◌, ap, refl, if◌then◌else◌, List, [], ◌∷◌, ◌++◌, Option, Some, None, append-nil}
 use Rattle.thread_tree.specs.declared.token.Placed.{Placed}
 use Rattle.thread_tree.specs.declared.token.Token.{Token}
 use Rattle.thread_tree.specs.Grammar.{turn, advance, declared}
@@ -8,7 +8,7 @@ use Rattle.thread_text.specs.Bounds.{Counts, counted}
 use Rattle.thread_text.specs.Fate.{Fate, StuckAt, LongAt, Step, Goes, Stuck, Long, judged, step, fate}
 use Rattle.thread_text.specs.Verdict.{none_counted}
 use Rattle.text_bounds.specs.Tally.{Tally, told, within, tallied, none_tallied}
-use Rattle.text_bounds.proofs.Agreement.{need_of, ends, stands, fits, Level, Agrees, plain, type_name, type_open, type_field, type_more, Kept, none, on, past, agrees_within, halves}
+use Rattle.text_bounds.proofs.Agreement.{need_of, ends, stands, fits, Agrees, plain, type_name, type_open, type_field, type_more, Kept, none, on, past, agrees_within, halves}
 use Rattle.text_bounds.proofs.Rows.{row}
 use Rattle.text_bounds.proofs.Types.{name_row, open_row, field_row, more_row, first_row}
 

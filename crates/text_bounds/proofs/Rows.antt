@@ -1,5 +1,5 @@
 -- Each part of the table takes a token so that the counts and the tally go on agreeing.
-use Rattle.std.proofs.Common.{◌≡◌, ℕ, ◌+◌, ◌-◌, nat_le, nat_lt, Bool, true, false, if◌then◌else◌, List, [], ◌∷◌, ◌++◌, Option, Some, None, refl, sym, ap, ◌∙◌}
+use Rattle.std.proofs.Common.{◌≡◌, ℕ, Bool, true, false, List, [], ◌∷◌, Some, refl}
 use Rattle.thread_tree.specs.declared.token.Mark.{Mark}
 use Rattle.thread_tree.specs.declared.token.Mark.TheVariants as mark
 use Rattle.thread_tree.specs.declared.token.Token.{Token}
@@ -7,13 +7,13 @@ use Rattle.thread_tree.specs.declared.token.Token.TheVariants as token
 use Rattle.thread_tree.specs.declared.token.Word.{Word}
 use Rattle.thread_tree.specs.declared.token.Word.TheVariants as word
 use Rattle.thread_tree.specs.Parts.{Part, TheMark, TheWord, AName, ANumber, MoreNames, Channel, Parameters, Numbers, MoreNumbers, ABlock, Statements, Otherwise, AfterName, Assigned, AfterAssigned, Returned, AtomicTo, To, AnItem, MoreItems, Arguments, MoreExpressions, AWho, ATBlock, TStatements, TOtherwise, AfterTName, TAssigned, MoreField, Values, Expression, Inner, After, Dots, MoreDots}
-use Rattle.thread_text.specs.Bounds.{Counts, counted, afresh, one_operator, one_parenthesis, one_block, block_less, operand_counts, own_counts, open_counts, close_counts}
-use Rattle.text_bounds.specs.Tally.{Tally, anew, marked, told, within}
-use Rattle.thread_tree.specs.Grammar.{turn, statement, tstatement, operand, call_end, is_mark, is_word, is_name, is_number, is_text, is_between}
+use Rattle.thread_text.specs.Bounds.{Counts, counted, afresh, one_operator, own_counts, open_counts, close_counts}
+use Rattle.text_bounds.specs.Tally.{Tally, anew, marked, told}
+use Rattle.thread_tree.specs.Grammar.{turn, call_end, is_mark, is_word, is_name, is_number, is_text, is_between}
 use Rattle.grammar_laws.proofs.Callers.{is_the_mark, is_the_word}
-use Rattle.text_bounds.proofs.Agreement.{Need, Nothing, Named, Fresh, Live, Begun, Called, Has, need, need_of, passing, nothing, renewing, keeping, naming, ends, ends_by, ends_anew, closes, follows, stands, fits, Level, Agrees, plain, Kept, none, on, past, level_named, level_anew, one_more, one_less, halves, pick, pick_both, opens, opens_or, renewed, renewed_agrees, nothing_opens, renews_opens}
+use Rattle.text_bounds.proofs.Agreement.{Need, Nothing, Named, Live, Has, need, need_of, passing, nothing, keeping, naming, ends, ends_by, ends_anew, closes, follows, stands, fits, Level, Agrees, plain, Kept, none, on, level_named, level_anew, pick, pick_both, renewed_agrees, renews_opens}
 use Rattle.text_bounds.proofs.Expressions.{closes_stands, follows_stands, ends_next, through, anew_ends, operator_kept, operand_row, level_afresh, own_row}
-use Rattle.text_bounds.proofs.Statements.{nothing_has, untyped, open_kept, ended, statement_row, tstatement_row}
+use Rattle.text_bounds.proofs.Statements.{nothing_has, untyped, open_kept, statement_row, tstatement_row}
 use Rattle.thread_tree.specs.declared.name.Text.{Text}
 use Rattle.thread_tree.specs.declared.expr.Op.{Op}
 

@@ -1,17 +1,16 @@
 -- One token of a block.
-use Rattle.std.proofs.Common.{◌≡◌, ℕ, ◌+◌, ◌-◌, nat_le, nat_lt, Bool, true, false, if◌then◌else◌, List, [], ◌∷◌, ◌++◌, Option, Some, None, refl, sym, ap, ◌∙◌}
-use Rattle.thread_tree.specs.declared.token.Mark.{Mark}
+use Rattle.std.proofs.Common.{◌≡◌, ◌+◌, ◌-◌, nat_le, nat_lt, Bool, true, false, if◌then◌else◌, List, [], ◌∷◌, Option, Some, None, refl, ap, ◌∙◌}
 use Rattle.thread_tree.specs.declared.token.Mark.TheVariants as mark
 use Rattle.thread_tree.specs.declared.token.Token.{Token}
 use Rattle.thread_tree.specs.declared.token.Token.TheVariants as token
 use Rattle.thread_tree.specs.declared.token.Word.{Word}
 use Rattle.thread_tree.specs.declared.token.Word.TheVariants as word
-use Rattle.thread_tree.specs.Parts.{Part, TheMark, TheWord, AName, ANumber, MoreNames, Channel, Parameters, Numbers, MoreNumbers, ABlock, Statements, Otherwise, AfterName, Assigned, AfterAssigned, Returned, AtomicTo, To, AnItem, MoreItems, Arguments, MoreExpressions, AWho, ATBlock, TStatements, TOtherwise, AfterTName, TAssigned, MoreField, Values, Expression, Inner, After, Dots, MoreDots}
-use Rattle.thread_text.specs.Bounds.{Counts, counted, afresh, one_operator, one_parenthesis, one_block, block_less, operand_counts, own_counts, open_counts, close_counts}
+use Rattle.thread_tree.specs.Parts.{Part}
+use Rattle.thread_text.specs.Bounds.{Counts, one_block, block_less, close_counts}
 use Rattle.text_bounds.specs.Tally.{Tally, anew, marked, told, within}
 use Rattle.thread_tree.specs.Grammar.{statement, tstatement, stated_by, plain_by, transacted_by}
 use Rattle.thread_tree.specs.Pieces.{shape}
-use Rattle.text_bounds.proofs.Agreement.{Need, Nothing, Named, Fresh, Live, Begun, Called, Has, need, need_of, passing, nothing, renewing, keeping, naming, ends, ends_by, ends_anew, closes, follows, stands, fits, Level, Agrees, plain, Kept, none, on, past, level_named, level_anew, one_more, one_less, halves, pick, pick_both, opens, opens_or, renewed, renewed_agrees, nothing_opens, renews_opens}
+use Rattle.text_bounds.proofs.Agreement.{Need, Nothing, Fresh, Has, need_of, nothing, renewing, fits, Level, Agrees, plain, Kept, none, on, past, level_named, one_more, one_less, halves, opens, renewed}
 
 pub nothing_has : (n : Need) (c : Counts) (s : Tally) → nothing n ≡ true → Has n c s
 nothing_has Nothing c s h = tt

@@ -1,5 +1,5 @@
 -- The declaration of a type, whose braces are no block, and the beginning of a declaration.
-use Rattle.std.proofs.Common.{◌≡◌, Bool, true, false, if◌then◌else◌, List, [], ◌∷◌, Option, Some, None, refl}
+use Rattle.std.proofs.Common.{◌≡◌, Bool, true, false, if◌then◌else◌, List, [], ◌∷◌, Option, Some, refl}
 use Rattle.thread_tree.specs.declared.token.Mark.TheVariants as mark
 use Rattle.thread_tree.specs.declared.token.Token.{Token}
 use Rattle.thread_tree.specs.declared.token.Token.TheVariants as token
@@ -10,7 +10,7 @@ use Rattle.thread_tree.specs.Grammar.{turn, declared, declared_by, is_mark, is_n
 use Rattle.grammar_laws.proofs.Callers.{is_the_mark}
 use Rattle.thread_text.specs.Bounds.{Counts, counted}
 use Rattle.text_bounds.specs.Tally.{Tally, anew, marked, told}
-use Rattle.text_bounds.proofs.Agreement.{Level, Agrees, plain, type_name, type_open, type_field, type_more, Kept, none, on, level_named, level_anew, pick, pick_both, renewed}
+use Rattle.text_bounds.proofs.Agreement.{Level, plain, type_name, type_open, type_field, type_more, Kept, none, on, level_named, level_anew, pick, pick_both, renewed}
 use Rattle.text_bounds.proofs.Rows.{is_the_name}
 
 typed : {ps : List Part} {x : Tally} {found : Option (List Part)} {o : Option Counts} (b : Bool) (y : Tally) → b ≡ true → Kept ps x found o → Kept ps (if b then x else y) found o

@@ -5,5 +5,7 @@
 #![tactic(auto)]
 
 mod laws;
+mod worked;
 
 pub use laws::bounds_by_tokens;
+pub use worked::worked_bounds;
