@@ -37,10 +37,12 @@ abbrev pub by_tokens : Option (List Part) → Tally → Placed → List Placed �
 by_tokens (Some after) s t ts = if within s then tallied after s ts else LongAt (t ∷ ts)
 by_tokens None s t ts = StuckAt (t ∷ ts)
 
+-- what is owed when a part turned into these
 abbrev behind : Option (List Part) → List Part → Option (List Part)
 behind (Some first) ps = Some (first ++ ps)
 behind None ps = None
 
+-- where a token is kept and the rest comes to the same, all does
 joined : (ps : List Part) (s : Tally) (found : Option (List Part)) (o : Option Counts) (t : Placed) (ts : List Placed) → Kept ps s found o → Rest s ts → by_parts (judged found o ps) t ts ≡ by_tokens (behind found ps) s t ts
 unfolding judged
 joined ps s found o t ts none rest = refl
@@ -52,6 +54,7 @@ unfolding judged
 joined_first s found c t ts none rest = refl
 joined_first s found c t ts (on {first = first} a) rest = rw (agrees_within a) (rest (first ++ []) c a ∙ ap (λ l. tallied l s ts) (append-nil first))
 
+-- both are what `fate` and `tallied` make of a token
 steps_parts : (s : Step) (t : Placed) (ts : List Placed) → (elim s [ Goes after counts ↦ fate after counts ts | Stuck ↦ StuckAt (t ∷ ts) | Long ↦ LongAt (t ∷ ts) ]) ≡ by_parts s t ts
 steps_parts (Goes after counts) t ts = refl
 steps_parts Stuck t ts = refl
@@ -84,6 +87,7 @@ tallied_part : (part : Part) (ps : List Part) (s : Tally) (t : Placed) (ts : Lis
 unfolding tallied
 tallied_part part ps s t ts = ap (λ found. by_tokens found (told t.token s) t ts) (advanced part ps t.token) ∙ steps_tokens (advance (part ∷ ps) t.token) (told t.token s) t ts
 
+-- from wherever the counts and the tally agree
 same_from : (parts : List Part) (c : Counts) (s : Tally) (tokens : List Placed) → Agrees parts c s → fate parts c tokens ≡ tallied parts s tokens
 unfolding fate tallied
 same_from [] c s [] a = refl

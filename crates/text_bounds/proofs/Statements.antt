@@ -12,6 +12,7 @@ use Rattle.thread_tree.specs.Grammar.{statement, tstatement, stated_by, plain_by
 use Rattle.thread_tree.specs.Pieces.{shape}
 use Rattle.text_bounds.proofs.Agreement.{Need, Nothing, Fresh, Has, need_of, nothing, renewing, fits, Level, Agrees, plain, Kept, none, on, past, level_named, one_more, one_less, halves, opens, renewed}
 
+-- where nothing is needed
 pub nothing_has : (n : Need) (c : Counts) (s : Tally) → nothing n ≡ true → Has n c s
 nothing_has Nothing c s h = tt
 nothing_has _ c s h = absurd (cc)
@@ -65,6 +66,7 @@ ended ps = if nothing (need_of ps) then fits ps else false
 closed_kept : (ps : List Part) (c : Counts) (s : Tally) → ended ps ≡ true → Level false c s → Kept ps (closed s) (Some []) (Some (block_less c))
 closed_kept ps c s k l = let e = halves (nothing (need_of ps)) (fits ps) k in on (plain e.1 (nothing_has (need_of ps) _ _ e.0) (level_closed l))
 
+-- the word that a statement begins with, and a token where one may begin
 stated_row : (w : Word) (ps : List Part) (c : Counts) (s : Tally) → ended ps ≡ true → Level false c s → Kept ps (told (token.Word w) s) (stated_by w) (Some c)
 unfolding told stated_by plain_by shape
 stated_row word.Type ps c s k l = none
@@ -78,6 +80,7 @@ statement_row (token.Mark mark.CloseBrace) ps c s k l = untyped s.typing _ l.typ
 statement_row (token.Mark _) ps c s k l = none
 statement_row _ ps c s k l = none
 
+-- the same in a transaction
 transacted_row : (w : Word) (ps : List Part) (c : Counts) (s : Tally) → ended ps ≡ true → Level false c s → Kept ps (told (token.Word w) s) (transacted_by w) (Some c)
 unfolding told transacted_by
 transacted_row word.Type ps c s k l = none
