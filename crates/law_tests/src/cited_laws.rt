@@ -4,7 +4,7 @@ use grammar_laws::{stuck_means, taken_means, worked_tokens};
 use kernel_model::{loops, order, places, replay, soundness};
 use served_runs::served_runs;
 use small_actions::small_actions;
-use text_bounds::bounds_by_tokens;
+use text_bounds::{bounds_by_tokens, worked_bounds};
 
 // The laws of the uncut run.
 #[test]
@@ -26,6 +26,7 @@ fn of_the_language() {
     one_program();
     same_verdict();
     bounds_by_tokens();
+    worked_bounds();
 }
 
 // The laws of served programs and of small actions.
