@@ -13,7 +13,7 @@ use Rattle.thread_tree.specs.Program.{Program, Template, Start}
 use Rattle.kernel_model.specs.Kernel as kernel
 use Rattle.kernel_model.specs.Kernel.{State}
 use Rattle.kernel_model.specs.Kernel.Row.{Free, Ended, Live}
-use Rattle.kernel_model.specs.Numbers.{template_number}
+use Rattle.thread_tree.specs.Numbers.{template_number}
 use Rattle.kernel_model.specs.Calls.{born}
 use Rattle.kernel_model.specs.Run.{initial, start_row, start_rows}
 use Rattle.kernel_image.specs.Cells.{cells, cell_of}

@@ -5,4 +5,5 @@ mod RowLaws
 mod BeginLaws
 mod BothLaws
 mod KeptLaws
+mod CounterLaws
 mod LawSets

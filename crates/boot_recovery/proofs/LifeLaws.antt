@@ -26,88 +26,47 @@ use Rattle.kernel_image.specs.Decoded.{RowWords}
 use Rattle.boot_recovery.proofs.Choices.{by_test}
 use Rattle.replay_list.specs.Records.{encoded, recorded, results_of, start_in}
 use Rattle.replay_list.specs.Stands.{IsLife}
+use Rattle.replay_list.proofs.Callers.{results_told}
 use Rattle.boot_recovery.proofs.RowLaws.{ready_closed, other_open}
 use Rattle.boot_recovery.specs.Remaining.{lived, Remains, IsGivenBack}
-
--- the kinds of actions are at most 16
-abbrev kind_or_zero : Option Action → ℕ
-kind_or_zero None = 0
-kind_or_zero (Some action) = action.kind
-
-call_few : (c : Call) → kind_of_call c ≤ 16
-call_few (call.Print items) = omega arith
-call_few c = omega arith
-
-layer_few : (layer : Stmt-F Stmt Block) → kind_or_zero (action_layer layer) ≤ 16
-layer_few (stmt.Let at e) = omega arith
-layer_few (stmt.Set at e) = omega arith
-layer_few (stmt.Apply to callee arguments) = omega arith
-layer_few (stmt.If e block other) = omega arith
-layer_few (stmt.While e block) = omega arith
-layer_few (stmt.Ploop place block) = omega arith
-layer_few (stmt.Break place) = omega arith
-layer_few (stmt.Return place value) = omega arith
-layer_few (stmt.Atomic place to block) = omega arith
-layer_few (stmt.Call place c to) = call_few c
-
-kind_few : (st : Stmt) (action : Action) → action_of st ≡ Some action → action.kind ≤ 16
-kind_few st action is = subst (λ (n : ℕ). n ≤ 16) (ap kind_or_zero is) (layer_few (out-Stmt st))
-
--- the kind word tells how many results a record has
-results_atomic : (given : ℕ) → result_count (kind_word 16 given % 256) (kind_word 16 given / 256) ≡ result_count 16 given
-results_atomic given =
-    let kind : (16 + 256 * given) % 256 ≡ 16 = omega arith in
-    let many : (16 + 256 * given) / 256 ≡ given = omega arith in
-    λ i. result_count (kind i) (many i)
-
-results_told : (kind given : ℕ) → kind ≤ 16 → result_count (kind_word kind given % 256) (kind_word kind given / 256) ≡ result_count kind given
-results_told kind given few = by_test (kind == 16) _
-    (λ is.
-    let same : 16 ≡ kind = grind (arith, nat_tests) in
-    subst (λ (k : ℕ). result_count (kind_word k given % 256) (kind_word k given / 256) ≡ result_count k given) same (results_atomic given))
-    (λ other.
-    let word : kind_word kind given ≡ kind = rw other refl in
-    let low : kind % 256 ≡ kind = omega (arith, few) in
-    let rest : result_count kind (kind / 256) ≡ result_count kind given = rw other refl in
-    ap (λ (w : ℕ). result_count (w % 256) (w / 256)) word ∙ ap (λ (k : ℕ). result_count k (kind / 256)) low ∙ rest)
 
 -- a record that is passed by is the one of the action that comes next
 pub record Passes (p : Program) (r : Record) (life : Life) : Type 0 where
   pub action : Action
-  pub next : next_action (ahead p life.local).local ≡ Some action
+  pub next : next_action p (ahead p life.local).local ≡ Some action
   pub many : length r.results ≡ result_count action.kind action.given
   pub told : results_of r.kind ≡ length r.results
-  pub gives : passed p r life ≡ Some (record { local = bind (ahead p life.local).local r.results; moves = life.moves + (ahead p life.local).moves; passed = life.passed + 1 })
+  pub gives : passed p r life ≡ Some (record { local = bind p (ahead p life.local).local r.results; moves = life.moves + (ahead p life.local).moves; passed = life.passed + 1 })
 
-abbrev by_arrival : Record → Life → Ahead → Arrival → Option Life
-by_arrival r life a arrival = elim arrival [
-  | AtAction statement ↦ option_and_then (λ action. passed_by r life a action) (action_of statement)
+abbrev by_arrival : Program → Record → Life → Ahead → Arrival → Option Life
+by_arrival p r life a arrival = elim arrival [
+  | AtAction statement ↦ option_and_then (λ action. passed_by p r life a action) (action_of p statement)
   | Finished ↦ None
   | Watchdog ↦ None
 ]
 
-abbrev by_record : Record → Life → Ahead → Bool → Option Life
-by_record r life a b = if b then Some (record { local = bind a.local r.results; moves = life.moves + a.moves; passed = life.passed + 1 }) else None
+abbrev by_record : Program → Record → Life → Ahead → Bool → Option Life
+by_record p r life a b = if b then Some (record { local = bind p a.local r.results; moves = life.moves + a.moves; passed = life.passed + 1 }) else None
 
-passes_by : (p : Program) (r : Record) (life final : Life) (st : Stmt) (action : Action) (b : Bool) → (ahead p life.local).arrival ≡ AtAction st → action_of st ≡ Some action → records action r ≡ b → by_record r life (ahead p life.local) b ≡ Some final → Passes p r life
+passes_by : (p : Program) (r : Record) (life final : Life) (st : Stmt) (action : Action) (b : Bool) → (ahead p life.local).arrival ≡ AtAction st → action_of p st ≡ Some action → records action r ≡ b → by_record p r life (ahead p life.local) b ≡ Some final → Passes p r life
 passes_by p r life final st action false arrives is recorded given = absurd (none-some final given)
 passes_by p r life final st action true arrives is recorded given =
     let kind : kind_word action.kind action.given ≡ r.kind = grind (arith, nat_tests) in
     let many : result_count action.kind action.given ≡ length r.results = grind (arith, nat_tests) in
     record {
       action = action;
-      next = ap (λ (o : Option Stmt). elim o [ None ↦ None | Some statement ↦ action_of statement ]) (ahead-before p life.local st arrives) ∙ is;
+      next = ap (λ (o : Option Stmt). elim o [ None ↦ None | Some statement ↦ action_of p statement ]) (ahead-before p life.local st arrives) ∙ is;
       many = sym many;
-      told = ap results_of (sym kind) ∙ results_told action.kind action.given (kind_few st action is) ∙ many;
-      gives = ap (by_arrival r life (ahead p life.local)) arrives ∙ ap (option_and_then (λ action. passed_by r life (ahead p life.local) action)) is ∙ ap (by_record r life (ahead p life.local)) recorded;
+      told = ap results_of (sym kind) ∙ results_told p st action is ∙ many;
+      gives = ap (by_arrival p r life (ahead p life.local)) arrives ∙ ap (option_and_then (λ action. passed_by p r life (ahead p life.local) action)) is ∙ ap (by_record p r life (ahead p life.local)) recorded;
     }
 
-passes_action : (p : Program) (r : Record) (life final : Life) (st : Stmt) (o : Option Action) → (ahead p life.local).arrival ≡ AtAction st → action_of st ≡ o → option_and_then (λ action. passed_by r life (ahead p life.local) action) o ≡ Some final → Passes p r life
+passes_action : (p : Program) (r : Record) (life final : Life) (st : Stmt) (o : Option Action) → (ahead p life.local).arrival ≡ AtAction st → action_of p st ≡ o → option_and_then (λ action. passed_by p r life (ahead p life.local) action) o ≡ Some final → Passes p r life
 passes_action p r life final st None arrives is given = absurd (none-some final given)
 passes_action p r life final st (Some action) arrives is given = passes_by p r life final st action (records action r) arrives is refl given
 
-passes_arrival : (p : Program) (r : Record) (life final : Life) (arrival : Arrival) → (ahead p life.local).arrival ≡ arrival → by_arrival r life (ahead p life.local) arrival ≡ Some final → Passes p r life
-passes_arrival p r life final (AtAction st) arrives given = passes_action p r life final st (action_of st) arrives refl given
+passes_arrival : (p : Program) (r : Record) (life final : Life) (arrival : Arrival) → (ahead p life.local).arrival ≡ arrival → by_arrival p r life (ahead p life.local) arrival ≡ Some final → Passes p r life
+passes_arrival p r life final (AtAction st) arrives given = passes_action p r life final st (action_of p st) arrives refl given
 passes_arrival p r life final Finished arrives given = absurd (none-some final given)
 passes_arrival p r life final Watchdog arrives given = absurd (none-some final given)
 
@@ -142,10 +101,10 @@ drop_plus (suc a) n (x ∷ xs) = let e : suc a + n ≡ suc (a + n) = omega arith
 -- one record is read and passed by
 pub record Turns (p : Program) (row : RowWords) (from : ℕ) (local : LocalState) (before now : ℕ) (thread : Thread) : Type 0 where
   pub action : Action
-  pub next : next_action (ahead p local).local ≡ Some action
+  pub next : next_action p (ahead p local).local ≡ Some action
   pub many : results_of (slice_index row.records from) ≡ result_count action.kind action.given
   pub fits : from + 1 + results_of (slice_index row.records from) ≤ 256
-  pub goes : Remains p row (from + 1 + results_of (slice_index row.records from)) (bind (ahead p local).local (take (results_of (slice_index row.records from)) (drop (from + 1) row.records))) before (now + (ahead p local).moves) thread
+  pub goes : Remains p row (from + 1 + results_of (slice_index row.records from)) (bind p (ahead p local).local (take (results_of (slice_index row.records from)) (drop (from + 1) row.records))) before (now + (ahead p local).moves) thread
 
 module _ (p : Program) (row : RowWords) (from : ℕ) (local : LocalState) (before now moves count : ℕ) (thread : Thread) (behind : List ℕ) (sized : length row.records ≡ 256) (counted : now ≡ before + moves) where
   turns_by : (rs : List Record) → drop from row.records ≡ encoded rs ++ behind → from + length (encoded rs) ≡ row.used → lived p rs (is_open thread.activity) (Some (record { local = local; moves = moves; passed = count })) ≡ Some (life_of thread) → from < row.used → Turns p row from local before now thread
@@ -164,7 +123,7 @@ module _ (p : Program) (row : RowWords) (from : ℕ) (local : LocalState) (befor
       let after : drop (from + 1) row.records ≡ r.results ++ (encoded rs ++ behind) = ap tail_of (sym (drop_more row.records from 0 low) ∙ words) ∙ append_assoc r.results (encoded rs) behind in
       let read : take (length r.results) (drop (from + 1) row.records) ≡ r.results = ap (take (length r.results)) after ∙ take-append_seam r.results (encoded rs ++ behind) in
       let rest : drop (from + 1 + length r.results) row.records ≡ encoded rs ++ behind = drop_plus (from + 1) (length r.results) row.records ∙ ap (drop (length r.results)) after ∙ drop-append_seam r.results (encoded rs ++ behind) in
-      let goes : Remains p row (from + 1 + length r.results) (bind (ahead p local).local r.results) before (now + (ahead p local).moves) thread = record {
+      let goes : Remains p row (from + 1 + length r.results) (bind p (ahead p local).local r.results) before (now + (ahead p local).moves) thread = record {
         records = rs;
         behind = behind;
         moves = moves + (ahead p local).moves;
@@ -179,8 +138,8 @@ module _ (p : Program) (row : RowWords) (from : ℕ) (local : LocalState) (befor
         next = passing.next;
         many = told ∙ passing.many;
         fits = omega (arith, told, one, all, whole, part, sized);
-        goes = subst (λ (n : ℕ). Remains p row (from + 1 + n) (bind (ahead p local).local (take n (drop (from + 1) row.records))) before (now + (ahead p local).moves) thread) (sym told)
-            (subst (λ (ws : List ℕ). Remains p row (from + 1 + length r.results) (bind (ahead p local).local ws) before (now + (ahead p local).moves) thread) (sym read) goes);
+        goes = subst (λ (n : ℕ). Remains p row (from + 1 + n) (bind p (ahead p local).local (take n (drop (from + 1) row.records))) before (now + (ahead p local).moves) thread) (sym told)
+            (subst (λ (ws : List ℕ). Remains p row (from + 1 + length r.results) (bind p (ahead p local).local ws) before (now + (ahead p local).moves) thread) (sym read) goes);
       }
 
 pub turns : (p : Program) (row : RowWords) (from : ℕ) (local : LocalState) (before now : ℕ) (thread : Thread) → length row.records ≡ 256 → Remains p row from local before now thread → from < row.used → Turns p row from local before now thread
@@ -282,18 +241,18 @@ arrived_open p row from local new before now after thread is all r other moved s
 pub one_turn : (p : Program) (row : RowWords) (from : ℕ) (local : LocalState) (now : ℕ) → length row.records ≡ 256 → from < row.used → (more : (before : ℕ) × (known : Thread) × Remains p row from local before now known) → Turns p row from local more.0 now more.1
 one_turn p row from local now sized some more = turns p row from local more.0 now more.1 sized more.2 some
 
-pub turn_action : (p : Program) (row : RowWords) (from count : ℕ) (local : LocalState) (before now : ℕ) (thread : Thread) (words : List ℕ) → length row.records ≡ 256 → Turns p row from local before now thread → count ≡ results_of (slice_index row.records from) → words ≡ take count (drop (from + 1) row.records) → IsSomeAnd (next_action (ahead p local).local) (λ (action : Action). length words ≡ result_count action.kind action.given)
+pub turn_action : (p : Program) (row : RowWords) (from count : ℕ) (local : LocalState) (before now : ℕ) (thread : Thread) (words : List ℕ) → length row.records ≡ 256 → Turns p row from local before now thread → count ≡ results_of (slice_index row.records from) → words ≡ take count (drop (from + 1) row.records) → IsSomeAnd (next_action p (ahead p local).local) (λ (action : Action). length words ≡ result_count action.kind action.given)
 turn_action p row from count local before now thread words sized turn many read =
     let fits = turn.fits in
     let long : length (drop (from + 1) row.records) ≡ length row.records - (from + 1) = length-drop (from + 1) row.records in
     let all : length words ≡ count = ap length read ∙ length-take-le count (drop (from + 1) row.records) (omega (arith, long, sized, fits, many)) in
     subst (λ (o : Option Action). IsSomeAnd o (λ (action : Action). length words ≡ result_count action.kind action.given)) (sym turn.next) (all ∙ many ∙ turn.many)
 
-pub turned_to : (p : Program) (row : RowWords) (from count : ℕ) (local new : LocalState) (before now after : ℕ) (thread : Thread) (words : List ℕ) → length row.records ≡ 256 → Remains p row from local before now thread → from < row.used → count ≡ results_of (slice_index row.records from) → words ≡ take count (drop (from + 1) row.records) → new ≡ bind (ahead p local).local words → after ≡ now + (ahead p local).moves → Remains p row (from + 1 + count) new before after thread
+pub turned_to : (p : Program) (row : RowWords) (from count : ℕ) (local new : LocalState) (before now after : ℕ) (thread : Thread) (words : List ℕ) → length row.records ≡ 256 → Remains p row from local before now thread → from < row.used → count ≡ results_of (slice_index row.records from) → words ≡ take count (drop (from + 1) row.records) → new ≡ bind p (ahead p local).local words → after ≡ now + (ahead p local).moves → Remains p row (from + 1 + count) new before after thread
 turned_to p row from count local new before now after thread words sized remains some many read bound stepped =
     let goes = (turns p row from local before now thread sized remains some).goes in
     let n : ℕ = results_of (slice_index row.records from) in
-    let given : new ≡ bind (ahead p local).local (take n (drop (from + 1) row.records)) = bound ∙ ap (λ (ws : List ℕ). bind (ahead p local).local ws) (read ∙ ap (λ (m : ℕ). take m (drop (from + 1) row.records)) many) in
+    let given : new ≡ bind p (ahead p local).local (take n (drop (from + 1) row.records)) = bound ∙ ap (λ (ws : List ℕ). bind p (ahead p local).local ws) (read ∙ ap (λ (m : ℕ). take m (drop (from + 1) row.records)) many) in
     subst (λ (m : ℕ). Remains p row (from + 1 + m) new before after thread) (sym many)
     (subst (λ (s : LocalState). Remains p row (from + 1 + n) s before after thread) (sym given)
-    (subst (λ (m : ℕ). Remains p row (from + 1 + n) (bind (ahead p local).local (take n (drop (from + 1) row.records))) before m thread) (sym stepped) goes))
+    (subst (λ (m : ℕ). Remains p row (from + 1 + n) (bind p (ahead p local).local (take n (drop (from + 1) row.records))) before m thread) (sym stepped) goes))

@@ -39,12 +39,6 @@ records_sized word t low = ap (λ (row : RowWords). length row.records) (row_is 
 pub record_word : (word : Cell → ℕ) (t i : ℕ) → t < 16 → i < 256 → slice_index (row_at (decoded_of word) t).records i ≡ word (RecordWord t i)
 record_word word t i low within = ap (λ (row : RowWords). slice_index row.records i) (row_is word t low) ∙ listed_at 256 _ i within
 
-values_sized : (word : Cell → ℕ) (t : ℕ) → t < 16 → length (row_at (decoded_of word) t).start_values ≡ 16
-values_sized word t low = ap (λ (row : RowWords). length row.start_values) (row_is word t low) ∙ length_listed 16 _
-
-value_word : (word : Cell → ℕ) (t i : ℕ) → t < 16 → i < 16 → slice_index (row_at (decoded_of word) t).start_values i ≡ word (StartValue t i)
-value_word word t i low within = ap (λ (row : RowWords). slice_index row.start_values i) (row_is word t low) ∙ listed_at 16 _ i within
-
 -- one word more of a list that is read
 pub words_more : (word : Cell → ℕ) (t from i : ℕ) → t < 16 → from + i < 256 → take (i + 1) (drop from (row_at (decoded_of word) t).records) ≡ take i (drop from (row_at (decoded_of word) t).records) ++ word (RecordWord t (from + i)) ∷ []
 words_more word t from i low within =
@@ -53,13 +47,6 @@ words_more word t from i low within =
     let sized = records_sized word t low in
     take_more (drop from xs) i 0 (omega (arith, long, sized, within))
     ∙ ap (λ (x : ℕ). take i (drop from xs) ++ x ∷ []) (get_or-drop from xs i 0 ∙ record_word word t (from + i) low within)
-
-pub values_more : (word : Cell → ℕ) (t i : ℕ) → t < 16 → i < 16 → take (i + 1) (row_at (decoded_of word) t).start_values ≡ take i (row_at (decoded_of word) t).start_values ++ word (StartValue t i) ∷ []
-values_more word t i low within =
-    let xs = (row_at (decoded_of word) t).start_values in
-    let sized = values_sized word t low in
-    take_more xs i 0 (omega (arith, sized, within))
-    ∙ ap (λ (x : ℕ). take i xs ++ x ∷ []) (value_word word t i low within)
 
 -- the state of a row tells whether a call is open
 pub ready_closed : (row : RowWords) (activity : Activity) → Does row activity → row.state ≡ 1 → is_open activity ≡ false
@@ -87,19 +74,6 @@ row_word_14 word t low = ap (λ (row : RowWords). row.start_count) (row_is word 
 
 pub row_word_15 : (word : Cell → ℕ) (t : ℕ) → t < 16 → (row_at (decoded_of word) t).used ≡ word (RowWord t 15)
 row_word_15 word t low = ap (λ (row : RowWords). row.used) (row_is word t low)
-
--- no more start values than there are words for
-pub values_all : (word : Cell → ℕ) (t n : ℕ) → t < 16 → n ≡ word (RowWord t 14) → take (min n 16) (row_at (decoded_of word) t).start_values ≡ take (row_at (decoded_of word) t).start_count (row_at (decoded_of word) t).start_values
-values_all word t n low is =
-    let xs = (row_at (decoded_of word) t).start_values in
-    let sized = values_sized word t low in
-    let count : n ≡ (row_at (decoded_of word) t).start_count = is ∙ sym (row_word_14 word t low) in
-    elim (cases_lt n 16) [
-      | inl within ↦ ap (λ (m : ℕ). take m xs) (let e : min n 16 ≡ n = omega (arith, within) in e ∙ count)
-      | inr past ↦ let all : length xs ≤ min n 16 = omega (arith, sized, past) in
-          let long : length xs ≤ (row_at (decoded_of word) t).start_count = omega (arith, sized, past, count) in
-          take_all (min n 16) xs all ∙ sym (take_all (row_at (decoded_of word) t).start_count xs long)
-    ]
 
 -- the cell of a record word
 pub record_cell : (t i : ℕ) → t < 16 → i < 256 → IsTrue (nat_lt t 16 && nat_lt i 256)

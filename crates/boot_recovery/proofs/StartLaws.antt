@@ -12,7 +12,7 @@ use Rattle.thread_tree.specs.Relive as relive
 use Rattle.thread_tree.specs.Relive.Start.{Birth, Loop}
 use Rattle.kernel_model.specs.Kernel as kernel
 use Rattle.kernel_model.specs.Kernel.Row.{Free, Live}
-use Rattle.kernel_model.specs.Numbers.{template_number}
+use Rattle.thread_tree.specs.Numbers.{template_number}
 use Rattle.kernel_model.specs.Calls.{born}
 use Rattle.kernel_model.specs.Objects.{end_of, first_place, static_objects, object_at}
 use Rattle.kernel_model.specs.Visible.{Object}
@@ -25,8 +25,8 @@ use Rattle.kernel_image.specs.Decoded.{RowWords, decoded_of, listed, row_of, que
 use Rattle.kernel_image.specs.Shown.{items_of, shown}
 use Rattle.kernel_image.specs.Initial.{initial_cell, initial_row_word, started_word, initial_heap_word, hole_word, first_hole, end_after}
 use Rattle.boot_recovery.proofs.Choices.{by_test}
-use Rattle.kernel_image.proofs.Callers.{initial-rows, initial-items, initial-semaphore, initial-objects}
-use Rattle.persistent_objects.specs.Holes.{AreHoles}
+use Rattle.kernel_image.proofs.Callers.{initial-rows, initial-items, initial-semaphore, initial-objects, initial-headers}
+use Rattle.persistent_objects.specs.Layout.{AreHoles}
 use Rattle.replay_list.specs.Records.{start_in, values_in}
 use Rattle.replay_list.specs.Stands.{Stands, IsLife, HasLife}
 
@@ -87,6 +87,7 @@ start_life p birth t s template is found same few =
       words = ap (λ (n : ℕ). take n row.records) (row_word p t 15 s is);
       relived = subst (λ (b : relive.Start). IsRelived p b [] (born (template_number p s.template) template s.arguments t)) (sym start) (birth (template_number p s.template) template s.arguments t found (sym same));
       used = row_word p t 15 s is;
+      few = subst (λ (n : ℕ). n ≤ 16) (sym (row_word p t 14 s is)) few;
     }
 
 -- what is found of a start's template
@@ -219,7 +220,8 @@ initial_stands p within birth sound shows to packed low = record {
   counts = initial_counts p 0 p.semaphores (λ i s is. subst (λ (m : ℕ). (semaphore_at (decoded_of (initial_cell p)) m).count ≡ s.count) (omega arith) (initial-semaphore p i s within is));
   console = no_bytes _;
   objects = initial-objects p within;
-  holes = initial_holes p to packed low;
+  layout = record { holes = initial_holes p to packed low; headers = initial-headers p within };
+  unread = refl;
   stamp = refl;
   few_stamps = within.starts;
 }

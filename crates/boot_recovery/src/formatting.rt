@@ -3,6 +3,7 @@ ghost use Rattle.std.specs.Prelude.{◌≡◌, ◌+◌, ◌≤◌, ◌↔◌, Is
 ghost use Rattle.nv_memory.specs.Budget.{spent, IsShort};
 ghost use Rattle.thread_tree.specs.Program.{program_of};
 ghost use Rattle.kernel_image.specs.Start.{IsFormatted};
+ghost use Rattle.boot_recovery.specs.Formatting.{IsBegunWith};
 
 use kernel_image::initial_word;
 use nv_memory::{Cut, Nv, WORDS};
@@ -12,7 +13,7 @@ use thread_check::Checked;
 use undo_journal::MAGIC;
 
 /// Writes the initial words 1 to 16,383 in this order and then the magic word, one step each. `Cut` comes exactly where
-/// fewer writes are left; word 0 is 0 then.
+/// fewer writes are left; then as many words from word 1 on are written as writes were left, and all others are as before.
 #[tactic(auto, using(crate::proofs::LawSets::formatting_laws))]
 pub(crate) fn format<N: Nv, L: Ledger>(
     nv: &mut N,
@@ -23,6 +24,7 @@ pub(crate) fn format<N: Nv, L: Ledger>(
     ensures cut { IsErr result ↔ IsShort (N.left nv.old) 16384 }
     ensures formatted { OnOk result (IsFormatted (program_of program.now) (N.words nv.new)) }
     ensures blank { OnErr result (slice_index (N.words nv.new) 0 ≡ 0) }
+    ensures begun { OnErr result (IsBegunWith (program_of program.now) (N.left nv.old) (N.words nv.old) (N.words nv.new)) }
     ensures left { N.left nv.new ≡ spent (N.left nv.old) 16384 }
     ensures to_come { N.to_come nv.new ≡ N.to_come nv.old }
     ensures ends { N.ends nv.new ≡ N.ends nv.old }

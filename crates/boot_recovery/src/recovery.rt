@@ -8,6 +8,7 @@ ghost use Rattle.kernel_model.specs.Run.{initial};
 ghost use Rattle.kernel_image.specs.Decoded.{image_in};
 ghost use Rattle.replay_list.specs.Kept.{IsKept, recovering, recovery_steps};
 ghost use Rattle.replay_list.specs.Stands.{Stands, KernelStands};
+ghost use Rattle.boot_recovery.specs.Formatting.{IsBegunWith};
 
 use crate::formatting::format;
 use crate::rows::restore_all;
@@ -56,6 +57,7 @@ fn make<N: Nv, L: Ledger>(
     ensures stands { IfOk result (λ idle. Stands (program_of program.now) (image_in (N.words idle)) (initial (program_of program.now))) }
     ensures at_rest { IfOk result (λ idle. IsAtRest (N.words idle)) }
     ensures blank { IfErr result (λ dark. slice_index (N.words dark) 0 ≡ 0) }
+    ensures begun { IfErr result (λ dark. IsBegunWith (program_of program.now) (N.left nv) (N.words nv) (N.words dark)) }
     ensures left { MatchResult result (λ idle. N.left idle ≡ spent (N.left nv) 16384) (λ dark. N.left dark ≡ Some 0) }
     ensures to_come { MatchResult result (λ idle. N.to_come idle ≡ N.to_come nv) (λ dark. N.to_come dark ≡ N.to_come nv) }
     ensures ends { MatchResult result (λ idle. N.ends idle ≡ N.ends nv) (λ dark. N.ends dark ≡ N.ends nv) }
@@ -87,6 +89,7 @@ fn ready<N: Nv, L: Ledger>(
     ensures at_rest { IfOk result (λ idle. IsAtRest (N.words idle)) }
     ensures kept { IfErr result (λ dark. (K : State) → IsKept (program_of program.now) (N.words nv) K → IsKept (program_of program.now) (N.words dark) K) }
     ensures formatted { IfErr result (λ dark. (slice_index (N.words dark) 0 == magic) ≡ (slice_index (N.words nv) 0 == magic)) }
+    ensures begun { IfErr result (λ dark. slice_index (N.words nv) 0 ≡ 0 → IsBegunWith (program_of program.now) (N.left nv) (N.words nv) (N.words dark)) }
     ensures count { IfErr result (λ dark. slice_index (N.words nv) 0 ≡ magic → slice_index (N.words dark) 4 ≡ slice_index (N.words nv) 4) }
     ensures left { MatchResult result (λ idle. N.left idle ≡ spent (N.left nv) (recovering (N.words nv))) (λ dark. N.left dark ≡ Some 0) }
     ensures to_come { MatchResult result (λ idle. N.to_come idle ≡ N.to_come nv) (λ dark. N.to_come dark ≡ N.to_come nv) }
@@ -107,7 +110,8 @@ fn ready<N: Nv, L: Ledger>(
 ///
 /// # Errors
 ///
-/// `Dark` exactly where fewer writes are left than recovery needs. The words are kept as before then.
+/// `Dark` exactly where fewer writes are left than recovery needs. The words are kept as before then. Of a blank device
+/// that was cut with n writes left words 1 to n are the initial ones, and all others as before.
 pub fn recover<N: Nv, L: Ledger>(
     nv: N,
     program: &Checked,
@@ -119,6 +123,7 @@ pub fn recover<N: Nv, L: Ledger>(
     ensures at_rest { IfOk result (λ next. IsAtRest (N.words next.idle)) }
     ensures kept { IfErr result (λ dark. (K : State) → IsKept (program_of program.now) (N.words nv) K → IsKept (program_of program.now) (N.words dark) K) }
     ensures formatted { IfErr result (λ dark. (slice_index (N.words dark) 0 == magic) ≡ (slice_index (N.words nv) 0 == magic)) }
+    ensures begun { IfErr result (λ dark. slice_index (N.words nv) 0 ≡ 0 → IsBegunWith (program_of program.now) (N.left nv) (N.words nv) (N.words dark)) }
     ensures count { IfErr result (λ dark. slice_index (N.words nv) 0 ≡ magic → slice_index (N.words dark) 4 ≡ slice_index (N.words nv) 4) }
     ensures left { MatchResult result (λ next. N.left next.idle ≡ spent (N.left nv) (recovering (N.words nv))) (λ dark. N.left dark ≡ Some 0) }
     ensures to_come { MatchResult result (λ next. N.to_come next.idle ≡ N.to_come nv) (λ dark. N.to_come dark ≡ N.to_come nv) }

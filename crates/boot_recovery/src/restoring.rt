@@ -15,24 +15,12 @@ ghost use Rattle.boot_recovery.specs.Remaining.{Remains, IsGivenBack};
 
 use arrayvec::ArrayVec;
 use kernel_image::{Cell, load};
+use replay_list::{result_count, start_values};
 use std::sync::ledger::Ledger;
 use step_counter::Steps;
 use thread_check::Checked;
 use thread_machine::Ctx;
 use undo_journal::Words;
-
-// How many results a record has that begins with this kind word.
-fn results_of(kind_word: u32) -> u32
-    ensures many { result ≡ results_of kind_word }
-{
-    match kind_word % 256 {
-        8 => 2,
-        4 | 12 | 14 | 15 => 0,
-        16 => 1 + kind_word / 256,
-        0..=13 => 1,
-        _ => 0,
-    }
-}
 
 // So many record words of a thread from one on.
 #[tactic(auto, using(crate::proofs::LawSets::word_laws))]
@@ -46,20 +34,6 @@ fn words_at<W: Words>(words: &W, thread: u32, from: u32, count: u32) -> ArrayVec
         results.push(load(words, Cell::RecordWord(thread, from + i)));
     }
     results
-}
-
-// The values with which a thread starts.
-#[tactic(auto, using(crate::proofs::LawSets::word_laws))]
-fn start_values<W: Words>(words: &W, thread: u32) -> ArrayVec<u32, 16>
-    requires thread { thread < 16 }
-    ensures values { result.items ≡ values_in (row_at (image_in (W.present words.now)) thread) }
-{
-    let count = load(words, Cell::RowWord(thread, 14)).min(16);
-    let mut values = ArrayVec::new();
-    for i in 0..count {
-        values.push(load(words, Cell::StartValue(thread, i)));
-    }
-    values
 }
 
 // The context at the start of a thread.
@@ -98,7 +72,7 @@ fn replay_record<W: Words, L: Ledger>(
     ensures within { result ≤ 256 }
     ensures turned { (before : ℕ) (known : Thread) → Remains (program_of program.now) (row_at (image_in (W.present words.now)) thread) from (local_of (program_of program.now) ctx.old) before steps.old known → Remains (program_of program.now) (row_at (image_in (W.present words.now)) thread) result (local_of (program_of program.now) ctx.new) before steps.new known }
 {
-    let count = results_of(load(words, Cell::RecordWord(thread, from)));
+    let count = result_count(load(words, Cell::RecordWord(thread, from)));
     let results = words_at(words, thread, from + 1, count);
     ctx.replay(program, results.as_slice(), steps);
     from + 1 + count

@@ -1,12 +1,16 @@
 // A program with blocks, run over boots that budgets cut.
-ghost use Rattle.std.specs.Prelude.{◌≡◌, ◌<◌, ◌≤◌, IfErr, IsTrue, slice_index};
+ghost use Rattle.std.specs.Prelude.{◌≡◌, ◌<◌, ◌≤◌, IfOk, IfErr, IsTrue, replicate, slice_index};
+ghost use Rattle.undo_journal.specs.Undo.{IsAtRest};
 ghost use Rattle.thread_tree.specs.Program.{program_of};
+ghost use Rattle.kernel_image.specs.Decoded.{image_in};
+ghost use Rattle.kernel_model.specs.declared.event.Event.TheVariants.{Step};
 ghost use Rattle.served_program.specs.Served.{is_served};
-ghost use Rattle.kernel_boots.specs.Boots.{IsUnderWay};
+ghost use Rattle.kernel_boots.specs.Courses.{from_start, IsUnderWay, IsLive};
 
-use crate::fixtures::{device, served};
+use crate::fixtures::{FourSteps, device, served};
+use boot_recovery::{counter, recover};
 use console_store::{byte, length};
-use kernel_boots::{beginning, boot};
+use kernel_boots::{Stopped, beginning, work};
 use kernel_events::event;
 use kernel_model::Event;
 use nv_memory::Nv;
@@ -22,6 +26,29 @@ use undo_journal::{Dark, Words};
 const BLOCKS: &[u8] =
     b"type T { v }\nobject o: T;\nthread t() priority 1 {\n  let ok = 9; let x = 9;\n  atomic -> ok { o.v = 1; o.v = 2; abort; }\n  print ok;\n  atomic -> ok, x { o.v = 5; o.v = o.v + 1; give o.v; }\n  print ok, \" \", x;\n}\nstart t();\n";
 
+/// One boot: it recovers the kernel, and gives it event after event until four steps are committed.
+fn boot<N: Nv, L: Ledger>(
+    nv: N,
+    program: &Checked,
+    counter: &mut Steps<L>,
+) -> Result<Kernel<N>, Dark<N>>
+    requires served { IsTrue (is_served program.now) }
+    requires under_way { IsUnderWay (from_start (program_of program.now) (replicate 4 Step)) (N.words nv) }
+    ensures live { IfOk result (λ next. IsLive (from_start (program_of program.now) (replicate 4 Step)) (image_in (N.words next.idle)) next.contexts) }
+    ensures at_rest { IfOk result (λ next. IsAtRest (N.words next.idle)) }
+    ensures under_way { IfErr result (λ dark. IsUnderWay (from_start (program_of program.now) (replicate 4 Step)) (N.words dark)) }
+{
+    beginning();
+    let mut world = FourSteps::new();
+    match recover(nv, program, counter) {
+        Ok(kernel) => match work(kernel, program, &mut world, counter) {
+            Ok(kernel) => Ok(kernel),
+            Err(Stopped { dark, events: _ }) => Err(dark),
+        },
+        Err(dark) => Err(dark),
+    }
+}
+
 /// The next boot, where the one before was cut.
 fn again<N: Nv, L: Ledger>(
     ended: Result<Kernel<N>, Dark<N>>,
@@ -29,14 +56,14 @@ fn again<N: Nv, L: Ledger>(
     counter: &mut Steps<L>,
 ) -> Result<Kernel<N>, Dark<N>>
     requires served { IsTrue (is_served program.now) }
-    requires under_way { IfErr ended (λ dark. IsUnderWay (program_of program.now) 4 (N.words dark)) }
-    ensures under_way { IfErr result (λ dark. IsUnderWay (program_of program.now) 4 (N.words dark)) }
+    requires under_way { IfErr ended (λ dark. IsUnderWay (from_start (program_of program.now) (replicate 4 Step)) (N.words dark)) }
+    ensures under_way { IfErr result (λ dark. IsUnderWay (from_start (program_of program.now) (replicate 4 Step)) (N.words dark)) }
 {
     match ended {
         Ok(kernel) => Ok(kernel),
         Err(dark) => {
             let nv = dark.again();
-            match boot(nv, program, 4, counter) {
+            match boot(nv, program, counter) {
                 Ok(kernel) => Ok(kernel),
                 Err(dark) => Err(dark),
             }
@@ -58,7 +85,7 @@ fn four_boots<N: Nv, L: Ledger>(
 {
     beginning();
     let mut counter = Steps::<L>::of(blank);
-    let first = boot(nv, program, 4, &mut counter);
+    let first = boot(nv, program, &mut counter);
     let second = again(first, program, &mut counter);
     let third = again(second, program, &mut counter);
     again(third, program, &mut counter)
@@ -74,7 +101,7 @@ fn one_more<N: Nv, L: Ledger>(nv: N, program: &Checked, blank: Blank) -> Result<
 {
     beginning();
     let mut counter = Steps::<L>::of(blank);
-    match boot(nv, program, 4, &mut counter) {
+    match boot(nv, program, &mut counter) {
         Ok(kernel) => match event(kernel, program, Event::Step, &mut counter) {
             Ok(kernel) => Ok(kernel),
             Err(dark) => Err(dark),
@@ -83,7 +110,8 @@ fn one_more<N: Nv, L: Ledger>(nv: N, program: &Checked, blank: Blank) -> Result<
     }
 }
 
-/// The fifth event ends the thread: the words that count the events and hold its state and its code say so.
+/// The fifth event ends the thread: the words that count the events and hold its state and its code say so, and so does
+/// the count that a boot would read before its recovery.
 fn ends<N: Nv + Drop>(rt: &impl Abort, nv: N, program: &Checked)
     requires blank { slice_index (N.words nv) 0 ≡ 0 }
     requires served { IsTrue (is_served program.now) }
@@ -96,7 +124,8 @@ fn ends<N: Nv + Drop>(rt: &impl Abort, nv: N, program: &Checked)
                 (idle.word(1), idle.word(1_152), idle.word(1_155)),
                 (5, 4, 0)
             );
-            idle.rest();
+            let nv = idle.rest();
+            assert_eq!(rt; counter(&nv), 5);
         }
         Err(dark) => {
             dark.leave();

@@ -1,13 +1,16 @@
 // Programs, devices and recoveries.
-ghost use Rattle.std.specs.Prelude.{◌≡◌, ◌<◌, IfOk, IfErr, IsTrue, slice_index};
+ghost use Rattle.std.specs.Prelude.{◌≡◌, ◌<◌, IfOk, IfErr, IsTrue, replicate, slice_get, slice_index};
 ghost use Rattle.thread_tree.specs.Program.{program_of};
 ghost use Rattle.kernel_image.specs.Decoded.{image_in};
 ghost use Rattle.kernel_model.specs.Kernel.{State};
+ghost use Rattle.kernel_model.specs.declared.event.Event.TheVariants.{Step};
 ghost use Rattle.replay_list.specs.Kept.{IsKept};
 ghost use Rattle.replay_list.specs.Stands.{KernelStands};
 ghost use Rattle.served_program.specs.Served.{is_served};
 
 use boot_recovery::recover;
+use kernel_boots::World;
+use kernel_model::Event;
 use nv_memory::{Nv, SimNv};
 use replay_list::Kernel;
 use served_program::is_served;
@@ -61,4 +64,30 @@ pub fn recovered<N: Nv, L: Ledger>(
     let mut steps = Steps::<L>::of(blank);
     let kernel = recover(nv, program, &mut steps)?;
     Ok(kernel)
+}
+
+/// Four steps, and then nothing more.
+#[derive(Drop)]
+pub struct FourSteps {
+    asked: u32,
+}
+
+impl FourSteps {
+    /// None of them was asked for yet.
+    pub fn new() -> FourSteps
+        ensures asked { result.asked ≡ 0 }
+    {
+        FourSteps { asked: 0 }
+    }
+}
+
+impl World for FourSteps {
+    ghost events = { λ _. replicate 4 Step };
+
+    ghost floor = { λ world. world.asked };
+
+    fn next(&mut self, n: u32) -> Option<Event> {
+        self.asked = n;
+        if n < 4 { Some(Event::Step) } else { None }
+    }
 }

@@ -7,15 +7,12 @@ use Rattle.nv_memory.specs.Budget.{IsShort, spent}
 use Rattle.nv_memory.specs.declared.nv.Nv.{Ghosts}
 use Rattle.outer_world.specs.Written.{put_to, IsPart, Puts}
 use Rattle.outer_world.proofs.Callers.{part_of_first}
-use Rattle.thread_tree.specs.Program.{Program}
 use Rattle.kernel_model.specs.Dump.{text_of}
-use Rattle.kernel_model.specs.Kernel.{State}
 use Rattle.kernel_model.proofs.Callers.{text_of-append}
-use Rattle.undo_journal.specs.Undo.{magic, entries, IsAtRest}
-use Rattle.kernel_image.specs.Decoded.{image_in}
-use Rattle.replay_list.specs.Kept.{counter_of, recovering, IsKept}
-use Rattle.replay_list.specs.Stands.{Stands}
-use Rattle.kernel_boots.specs.Boots.{uncut, DidNotRise, IsSpent, IsUnderWay}
+use Rattle.undo_journal.specs.Undo.{magic, entries}
+use Rattle.replay_list.specs.Kept.{counter_of, recovering}
+use Rattle.kernel_boots.specs.Boots.{DidNotRise, IsSpent}
+use Rattle.kernel_boots.specs.Courses.{Course, uncut, last}
 use Rattle.kernel_boots.proofs.Callers.{at-most-then}
 use Rattle.boot_report.specs.Lines.{begin_lines, end_line, cut_line, dark_line}
 use Rattle.intos_run.specs.Boots.{IsLater}
@@ -30,16 +27,6 @@ by_test : (b : Bool) (P : Type 0) → (b ≡ true → P) → (b ≡ false → P)
 by_test true P yes_then no_then = yes_then refl
 by_test false P yes_then no_then = no_then refl
 
--- the laws of words at rest that stand for a kernel, and of the events that a kernel counts
-abbrev pub KeptAtRest : Type 0
-KeptAtRest = (p : Program) (words : List ℕ) (K : State) → IsAtRest words → Stands p (image_in words) K → IsKept p words K
-
-abbrev pub KeptEvents : Type 0
-KeptEvents = (p : Program) (words : List ℕ) (K : State) → IsKept p words K → counter_of words ≡ K.events
-
-abbrev pub Counts : Type 0
-Counts = (p : Program) (steps n : ℕ) → n ≤ steps → (uncut p steps n).events ≡ n
-
 -- a failed write wrote a part of its text, and another one the whole
 pub part_failed : {T E : Type 0} (r : Result T E) (old new : Option (List ℕ)) (text : List ℕ) → is_err r ≡ true → Puts r old new text → IsPart old new text
 part_failed (Ok value) old new text failed puts = absurd (let not_failed : false ≡ true = failed in cc)
@@ -49,50 +36,23 @@ pub whole_put : {T E : Type 0} (r : Result T E) (old new : Option (List ℕ)) (t
 whole_put (Ok value) old new text fine puts = puts
 whole_put (Err error) old new text fine puts = absurd (let failed : true ≡ false = fine in cc)
 
-module _ (at_rest_kept : KeptAtRest) (kept_events : KeptEvents) (counts : Counts) (p : Program) (steps : ℕ) (words : List ℕ) (at_rest : IsAtRest words) where
-  -- words at rest that stand for the uncut run after n events count n
-  pub counted_at_rest : (n : ℕ) → n ≤ steps → Stands p (image_in words) (uncut p steps n) → counter_of words ≡ n
-  counted_at_rest n within stands = kept_events p words (uncut p steps n) (at_rest_kept p words (uncut p steps n) at_rest stands) ∙ counts p steps n within
-
-  -- and a run goes on from them
-  pub under_way_at_rest : (n : ℕ) → n ≤ steps → Stands p (image_in words) (uncut p steps n) → IsUnderWay p steps words
-  under_way_at_rest n within stands =
-      let count = counted_at_rest n within stands in
-      record {
-        kept = subst (λ (m : ℕ). IsKept p words (uncut p steps m)) (sym count) (at_rest_kept p words (uncut p steps n) at_rest stands);
-        within = omega (arith, count, within);
-      }
-
--- a recovery that was cut kept what the words were kept for, and committed nothing
-pub count_lost : KeptEvents → Counts → (p : Program) (steps : ℕ) (before left : List ℕ) → IsUnderWay p steps before → IsKept p left (uncut p steps (counter_of before)) → counter_of left ≡ counter_of before
-count_lost kept_events counts p steps before left under_way kept =
-    kept_events p left (uncut p steps (counter_of before)) kept ∙ counts p steps (counter_of before) under_way.within
-
-pub later_lost : KeptEvents → Counts → (p : Program) (steps : ℕ) (before left : List ℕ) → IsUnderWay p steps before → IsKept p left (uncut p steps (counter_of before)) → IsLater p steps before left
-later_lost kept_events counts p steps before left under_way kept =
-    let count = count_lost kept_events counts p steps before left under_way kept in
-    record {
-      under_way = record { kept = subst (λ (n : ℕ). IsKept p left (uncut p steps n)) (sym count) kept; within = omega (arith, count, under_way.within) };
-      later = omega (arith, count);
-    }
-
-module _ (p : Program) (steps number undone n : ℕ) where
+module _ (c : Course) (number undone n : ℕ) where
   -- the lines of a boot that came to the last event
-  pub live-end : (m : ℕ) → m ≡ steps → text_of (begin_lines number undone p (uncut p steps n)) ++ ((end_line number steps ++ 10 ∷ []) ++ []) ≡ text_of (live_lines p steps number undone n m)
+  pub live-end : (m : ℕ) → m ≡ last c → text_of (begin_lines number undone c.program (uncut c n)) ++ ((end_line number (last c) ++ 10 ∷ []) ++ []) ≡ text_of (live_lines c number undone n m)
   unfolding live_lines
   live-end m all =
-      let test : (m == steps) ≡ true = grind (arith, nat_tests) in
-      rw test (sym (text_of-append (begin_lines number undone p (uncut p steps n)) (end_line number steps ∷ [])))
+      let test : (m == last c) ≡ true = grind (arith, nat_tests) in
+      rw test (sym (text_of-append (begin_lines number undone c.program (uncut c n)) (end_line number (last c) ∷ [])))
 
   -- and of one that didn't
-  pub live-cut : (m : ℕ) → m < steps → text_of (begin_lines number undone p (uncut p steps n)) ++ ((cut_line number m ++ 10 ∷ []) ++ []) ≡ text_of (live_lines p steps number undone n m)
+  pub live-cut : (m : ℕ) → m < last c → text_of (begin_lines number undone c.program (uncut c n)) ++ ((cut_line number m ++ 10 ∷ []) ++ []) ≡ text_of (live_lines c number undone n m)
   unfolding live_lines
   live-cut m some =
-      let test : (m == steps) ≡ false = grind (arith, nat_tests) in
-      rw test (sym (text_of-append (begin_lines number undone p (uncut p steps n)) (cut_line number m ∷ [])))
+      let test : (m == last c) ≡ false = grind (arith, nat_tests) in
+      rw test (sym (text_of-append (begin_lines number undone c.program (uncut c n)) (cut_line number m ∷ [])))
 
   -- a part of the first lines is a part of all of them
-  pub live-begun : (m : ℕ) (old new : Option (List ℕ)) → IsPart old new (text_of (begin_lines number undone p (uncut p steps n))) → IsPart old new (text_of (live_lines p steps number undone n m))
+  pub live-begun : (m : ℕ) (old new : Option (List ℕ)) → IsPart old new (text_of (begin_lines number undone c.program (uncut c n))) → IsPart old new (text_of (live_lines c number undone n m))
   unfolding live_lines
   live-begun m old new part = rw text_of-append (part_of_first old new _ _ part)
 
@@ -115,34 +75,34 @@ pub short-more : (budget : Option ℕ) (n more : ℕ) → IsShort budget n → I
 short-more None n more short = absurd short
 short-more (Some budget) n more short = omega (arith, short)
 
-module _ (p : Program) (steps number : ℕ) (budget : Option ℕ) (before left : List ℕ) where
-  pub lines_done : (m : ℕ) → m ≡ steps → live_lines p steps number (entries before) (counter_of before) m ≡ start_lines p steps number before ++ end_line number steps ∷ []
+module _ (c : Course) (number : ℕ) (budget : Option ℕ) (before left : List ℕ) where
+  pub lines_done : (m : ℕ) → m ≡ last c → live_lines c number (entries before) (counter_of before) m ≡ start_lines c number before ++ end_line number (last c) ∷ []
   unfolding live_lines
-  lines_done m all = let test : (m == steps) ≡ true = grind (arith, nat_tests) in rw test
+  lines_done m all = let test : (m == last c) ≡ true = grind (arith, nat_tests) in rw test
 
-  pub lines_cut : goes_dark budget before ≡ false → counter_of left < steps → live_lines p steps number (entries before) (counter_of before) (counter_of left) ≡ cut_boot p steps number budget before left
+  pub lines_cut : goes_dark budget before ≡ false → counter_of left < last c → live_lines c number (entries before) (counter_of before) (counter_of left) ≡ cut_boot c number budget before left
   unfolding live_lines cut_boot
   lines_cut enough some =
-      let test : (counter_of left == steps) ≡ false = grind (arith, nat_tests) in
+      let test : (counter_of left == last c) ≡ false = grind (arith, nat_tests) in
       rw (test, enough)
 
-  pub lines_part : (old new : Option (List ℕ)) → goes_dark budget before ≡ false → (counter_of left ≡ steps → slice_index left 0 ≡ magic) → counter_of left ≤ steps
-      → IsPart old new (text_of (live_lines p steps number (entries before) (counter_of before) (counter_of left))) → IsPart old new (text_of (last_boot p steps number budget before left))
+  pub lines_part : (old new : Option (List ℕ)) → goes_dark budget before ≡ false → (counter_of left ≡ last c → slice_index left 0 ≡ magic) → counter_of left ≤ last c
+      → IsPart old new (text_of (live_lines c number (entries before) (counter_of before) (counter_of left))) → IsPart old new (text_of (last_boot c number budget before left))
   unfolding last_boot
-  lines_part old new enough formatted within part = by_test (counter_of left == steps) _
+  lines_part old new enough formatted within part = by_test (counter_of left == last c) _
       (λ all.
-      let is : counter_of left ≡ steps = grind (arith, nat_tests) in
+      let is : counter_of left ≡ last c = grind (arith, nat_tests) in
       let magic_there = formatted is in
       let stands : is_formatted left ≡ true = grind (arith, nat_tests) in
       rw (enough, stands, all) (rw text_of-append
       (part_of_first old new _ _ (subst (λ (lines : List (List ℕ)). IsPart old new (text_of lines)) (lines_done _ is) part))))
       (λ some.
-      let less : counter_of left < steps = grind (arith, nat_tests) in
+      let less : counter_of left < last c = grind (arith, nat_tests) in
       by_test (is_formatted left) _
       (λ there. rw (enough, there, some) (subst (λ (lines : List (List ℕ)). IsPart old new (text_of lines)) (lines_cut enough less) part))
       (λ blank. rw (enough, blank) (subst (λ (lines : List (List ℕ)). IsPart old new (text_of lines)) (lines_cut enough less) part)))
 
-module _ {N : Type 0} (g : Ghosts N) (p : Program) (steps number undone n : ℕ) (nv idle : N) (old new : Option (List ℕ))
+module _ {N : Type 0} (g : Ghosts N) (c : Course) (number undone n : ℕ) (nv idle : N) (old new : Option (List ℕ))
     (is_counter : n ≡ counter_of (g.words nv)) (is_undone : undone ≡ entries (g.words nv)) (enough : goes_dark (g.left nv) (g.words nv) ≡ false)
     (left : g.left idle ≡ spent (g.left nv) (recovering (g.words nv))) (to_come : g.to_come idle ≡ g.to_come nv) (ends : g.ends idle ≡ g.ends nv) where
   -- what was spent behind the recovery was spent in the boot
@@ -153,15 +113,15 @@ module _ {N : Type 0} (g : Ghosts N) (p : Program) (steps number undone n : ℕ)
     ends = s.ends ∙ ends;
   }
 
-  later_since : (words : List ℕ) → IsWorked p steps n words → IsLater p steps (g.words nv) words
+  later_since : (words : List ℕ) → IsWorked c n words → IsLater c (g.words nv) words
   later_since words w = record { under_way = w.under_way; later = omega (arith, w.later, is_counter) }
 
   -- the lines behind the recovery, by the words before the boot
-  lines_since : (m : ℕ) → live_lines p steps number undone n m ≡ live_lines p steps number (entries (g.words nv)) (counter_of (g.words nv)) m
-  lines_since m = ap (λ (u : ℕ). live_lines p steps number u n m) is_undone
-      ∙ ap (λ (k : ℕ). live_lines p steps number (entries (g.words nv)) k m) is_counter
+  lines_since : (m : ℕ) → live_lines c number undone n m ≡ live_lines c number (entries (g.words nv)) (counter_of (g.words nv)) m
+  lines_since m = ap (λ (u : ℕ). live_lines c number u n m) is_undone
+      ∙ ap (λ (k : ℕ). live_lines c number (entries (g.words nv)) k m) is_counter
 
-  pub done_since : (end : N) → EndsDone g p steps number undone n idle old new end → IsDone g p steps number nv old new end
+  pub done_since : (end : N) → EndsDone g c number undone n idle old new end → IsDone g c number nv old new end
   done_since end e = record {
     live = enough;
     images = later_since (g.words end) e.worked;
@@ -169,14 +129,14 @@ module _ {N : Type 0} (g : Ghosts N) (p : Program) (steps number undone n : ℕ)
     at_rest = e.at_rest;
     stands = e.stands;
     spent = spent_since end e.spent;
-    text = e.text ∙ ap (λ (lines : List (List ℕ)). put_to old (text_of lines)) (lines_since _ ∙ lines_done p steps number (g.left nv) (g.words nv) (g.words end) _ e.all);
+    text = e.text ∙ ap (λ (lines : List (List ℕ)). put_to old (text_of lines)) (lines_since _ ∙ lines_done c number (g.left nv) (g.words nv) (g.words end) _ e.all);
   }
 
-  progress_since : (end : N) → EndsCut g p steps number undone n idle old new end → IsShort (g.left nv) (recovering (g.words nv) + 6400 * (counter_of (g.words end) + 1 - counter_of (g.words nv)))
+  progress_since : (end : N) → EndsCut g c number undone n idle old new end → IsShort (g.left nv) (recovering (g.words nv) + 6400 * (counter_of (g.words end) + 1 - counter_of (g.words nv)))
   progress_since end e = subst (λ (k : ℕ). IsShort (g.left nv) (recovering (g.words nv) + 6400 * (counter_of (g.words end) + 1 - k))) is_counter
       (short-spent (recovering (g.words nv)) (6400 * (counter_of (g.words end) + 1 - n)) (g.left nv) (subst (λ (b : Option ℕ). IsShort b (6400 * (counter_of (g.words end) + 1 - n))) left e.progress))
 
-  pub cut_since : (end : N) → EndsCut g p steps number undone n idle old new end → IsCut g p steps number nv old new end
+  pub cut_since : (end : N) → EndsCut g c number undone n idle old new end → IsCut g c number nv old new end
   cut_since end e = record {
     boot = record {
       images = later_since (g.words end) e.worked;
@@ -186,29 +146,29 @@ module _ {N : Type 0} (g : Ghosts N) (p : Program) (steps number undone n : ℕ)
     };
     dark = e.dark;
     spent = spent_since end e.spent;
-    text = e.text ∙ ap (λ (lines : List (List ℕ)). put_to old (text_of lines)) (lines_since _ ∙ lines_cut p steps number (g.left nv) (g.words nv) (g.words end) enough e.some);
+    text = e.text ∙ ap (λ (lines : List (List ℕ)). put_to old (text_of lines)) (lines_since _ ∙ lines_cut c number (g.left nv) (g.words nv) (g.words end) enough e.some);
   }
 
-  pub failed_since : (end : N) → EndsFailed g p steps number undone n idle old new end → IsFailed g p steps number nv old new end
+  pub failed_since : (end : N) → EndsFailed g c number undone n idle old new end → IsFailed g c number nv old new end
   failed_since end e = record {
     images = later_since (g.words end) e.worked;
     spent = spent_since end e.spent;
-    text = lines_part p steps number (g.left nv) (g.words nv) (g.words end) old new enough e.formatted e.worked.under_way.within
+    text = lines_part c number (g.left nv) (g.words nv) (g.words end) old new enough e.formatted e.worked.under_way.within
         (subst (λ (lines : List (List ℕ)). IsPart old new (text_of lines)) (lines_since _) e.text);
   }
 
-module _ {N : Type 0} (g : Ghosts N) (p : Program) (steps number : ℕ) (nv dark : N) (old new : Option (List ℕ))
-    (short : IsShort (g.left nv) (recovering (g.words nv))) (images : IsLater p steps (g.words nv) (g.words dark)) (count : counter_of (g.words dark) ≡ counter_of (g.words nv))
+module _ {N : Type 0} (g : Ghosts N) (c : Course) (number : ℕ) (nv dark : N) (old new : Option (List ℕ))
+    (short : IsShort (g.left nv) (recovering (g.words nv))) (images : IsLater c (g.words nv) (g.words dark)) (count : counter_of (g.words dark) ≡ counter_of (g.words nv))
     (same : is_formatted (g.words dark) ≡ is_formatted (g.words nv)) (spends : IsSpent g nv dark) where
   lost : goes_dark (g.left nv) (g.words nv) ≡ true
   lost = goes_dark-short (g.left nv) (g.words nv) short
 
-  lines_dark : dark_line number (is_formatted (g.words nv)) ++ 10 ∷ [] ≡ text_of (cut_boot p steps number (g.left nv) (g.words nv) (g.words dark))
+  lines_dark : dark_line number (is_formatted (g.words nv)) ++ 10 ∷ [] ≡ text_of (cut_boot c number (g.left nv) (g.words nv) (g.words dark))
   unfolding cut_boot
   lines_dark = rw (lost, same) (sym (append-nil _))
 
   -- a recovery that was cut
-  pub cut_dark : g.left dark ≡ Some 0 → new ≡ put_to old (dark_line number (is_formatted (g.words nv)) ++ 10 ∷ []) → IsCut g p steps number nv old new dark
+  pub cut_dark : g.left dark ≡ Some 0 → new ≡ put_to old (dark_line number (is_formatted (g.words nv)) ++ 10 ∷ []) → IsCut g c number nv old new dark
   cut_dark none text = record {
     boot = record {
       images = images;
@@ -221,7 +181,7 @@ module _ {N : Type 0} (g : Ghosts N) (p : Program) (steps number : ℕ) (nv dark
     text = text ∙ ap (put_to old) lines_dark;
   }
 
-  pub failed_dark : IsPart old new (dark_line number (is_formatted (g.words nv)) ++ 10 ∷ []) → IsFailed g p steps number nv old new dark
+  pub failed_dark : IsPart old new (dark_line number (is_formatted (g.words nv)) ++ 10 ∷ []) → IsFailed g c number nv old new dark
   unfolding last_boot
   failed_dark part = record {
     images = images;

@@ -9,6 +9,7 @@ use Rattle.outer_world.specs.Written.{put_to, IsPart}
 use Rattle.outer_world.proofs.Callers.{put_twice, part_of_second}
 use Rattle.kernel_model.specs.Dump.{dump_lines, text_of}
 use Rattle.kernel_model.specs.Kernel.{State}
+use Rattle.kernel_boots.specs.Courses.{Course, last}
 use Rattle.kernel_model.specs.Show.{names_of, visible, timed_list as kernel_timed}
 use Rattle.kernel_model.specs.Visible.{Visible}
 use Rattle.kernel_image.specs.Decoded.{Decoded, image_in}
@@ -18,7 +19,7 @@ use Rattle.undo_journal.specs.Undo.{IsAtRest}
 use Rattle.nv_memory.proofs.Callers.{slice_index-blank_words}
 use Rattle.thread_tree.specs.Program.{Program}
 use Rattle.replay_list.specs.Kept.{counter_of}
-use Rattle.intos_run.specs.Report.{is_formatted, goes_dark, before_last, cut_boots, last_boot, dump_after, report}
+use Rattle.intos_run.specs.Report.{is_formatted, goes_dark, before_last, cut_boots, last_boot, last_dump, report}
 use Rattle.intos_run.specs.Runs.{budgets_of, lines_before_dump, StepsWithin}
 
 -- a blank device isn't formatted
@@ -30,17 +31,17 @@ pub budgets-planned : (cuts : List ℕ) → budgets_of (first_budget cuts) (late
 budgets-planned [] = refl
 budgets-planned (cut ∷ cuts) = refl
 
-module _ (p : Program) (steps : ℕ) (cuts first : List ℕ) (ends : List (List ℕ)) (words : List ℕ) (at_rest : IsAtRest words) (all : counter_of words ≡ steps)
+module _ (c : Course) (cuts first : List ℕ) (ends : List (List ℕ)) (words : List ℕ) (at_rest : IsAtRest words) (all : counter_of words ≡ last c)
     (live : goes_dark (first_budget (drop (length ends) cuts)) (before_last first ends) ≡ false) where
   -- the report of a run that came to the last event
-  pub report-whole : text_of (lines_before_dump p steps cuts first ends) ++ text_of (dump_after p steps steps) ≡ report p steps cuts first ends words
+  pub report-whole : text_of (lines_before_dump c cuts first ends) ++ text_of (last_dump c) ≡ report c cuts first ends words
   unfolding report last_boot
   report-whole =
       let formatted : is_formatted words ≡ true = grind (arith, nat_tests, at_rest.formatted) in
-      let last : (counter_of words == steps) ≡ true = grind (arith, nat_tests) in
-      rw (live, formatted, last)
-      (sym (text_of-append (lines_before_dump p steps cuts first ends) (dump_after p steps steps))
-      ∙ ap text_of (append_assoc (cut_boots p steps 1 cuts first ends) _ _))
+      let counts : (counter_of words == last c) ≡ true = grind (arith, nat_tests) in
+      rw (live, formatted, counts)
+      (sym (text_of-append (lines_before_dump c cuts first ends) (last_dump c))
+      ∙ ap text_of (append_assoc (cut_boots c 1 cuts first ends) _ _))
 
 -- what a call that succeeded ensures
 pub on_ok : {T E : Type 0} (r : Result T E) (P : Type 0) → is_err r ≡ false → OnOk r P → P
@@ -52,27 +53,27 @@ pub budgets-of_planned : (cuts : List ℕ) (left : Option ℕ) (to_come : List �
 budgets-of_planned cuts left to_come is_left is_to_come =
     ap (λ (b : Option ℕ). budgets_of b to_come) is_left ∙ ap (budgets_of (first_budget cuts)) is_to_come ∙ budgets-planned cuts
 
-module _ (p : Program) (steps : ℕ) (cuts planned first before : List ℕ) (ends done_ends : List (List ℕ)) (words done_words : List ℕ) (old middle new : Option (List ℕ))
+module _ (c : Course) (cuts planned first before : List ℕ) (ends done_ends : List (List ℕ)) (words done_words : List ℕ) (old middle new : Option (List ℕ))
     (is_cuts : planned ≡ cuts) (is_first : before ≡ first) (is_ends : ends ≡ done_ends) (is_words : words ≡ done_words)
-    (at_rest : IsAtRest done_words) (all : counter_of done_words ≡ steps)
+    (at_rest : IsAtRest done_words) (all : counter_of done_words ≡ last c)
     (live : goes_dark (first_budget (drop (length done_ends) planned)) (before_last before done_ends) ≡ false)
-    (begun : middle ≡ put_to old (text_of (lines_before_dump p steps planned before done_ends))) where
+    (begun : middle ≡ put_to old (text_of (lines_before_dump c planned before done_ends))) where
   -- the report is that of the run, whose device the dump leaves as it is
-  same_report : report p steps planned before done_ends done_words ≡ report p steps cuts first ends words
-  same_report = ap (λ (c : List ℕ). report p steps c before done_ends done_words) is_cuts
-      ∙ ap (λ (f : List ℕ). report p steps cuts f done_ends done_words) is_first
-      ∙ ap (λ (e : List (List ℕ)). report p steps cuts first e done_words) (sym is_ends)
-      ∙ ap (report p steps cuts first ends) (sym is_words)
+  same_report : report c planned before done_ends done_words ≡ report c cuts first ends words
+  same_report = ap (λ (budgets : List ℕ). report c budgets before done_ends done_words) is_cuts
+      ∙ ap (λ (f : List ℕ). report c cuts f done_ends done_words) is_first
+      ∙ ap (λ (e : List (List ℕ)). report c cuts first e done_words) (sym is_ends)
+      ∙ ap (report c cuts first ends) (sym is_words)
 
-  pub put_whole : new ≡ put_to middle (text_of (dump_after p steps steps)) → new ≡ put_to old (report p steps cuts first ends words)
+  pub put_whole : new ≡ put_to middle (text_of (last_dump c)) → new ≡ put_to old (report c cuts first ends words)
   put_whole dumped =
-      dumped ∙ ap (λ (held : Option (List ℕ)). put_to held (text_of (dump_after p steps steps))) begun
-      ∙ put_twice old _ _ ∙ ap (put_to old) (report-whole p steps planned before done_ends done_words at_rest all live ∙ same_report)
+      dumped ∙ ap (λ (held : Option (List ℕ)). put_to held (text_of (last_dump c))) begun
+      ∙ put_twice old _ _ ∙ ap (put_to old) (report-whole c planned before done_ends done_words at_rest all live ∙ same_report)
 
-  pub part_whole : IsPart middle new (text_of (dump_after p steps steps)) → IsPart old new (report p steps cuts first ends words)
+  pub part_whole : IsPart middle new (text_of (last_dump c)) → IsPart old new (report c cuts first ends words)
   part_whole part =
-      subst (IsPart old new) (report-whole p steps planned before done_ends done_words at_rest all live ∙ same_report)
-      (part_of_second old new _ _ (subst (λ (held : Option (List ℕ)). IsPart held new (text_of (dump_after p steps steps))) begun part))
+      subst (IsPart old new) (report-whole c planned before done_ends done_words at_rest all live ∙ same_report)
+      (part_of_second old new _ _ (subst (λ (held : Option (List ℕ)). IsPart held new (text_of (last_dump c))) begun part))
 
 -- where nobody is timed in a kernel, nobody is in the words that show it
 pub nobody_timed : (p : Program) (d : Decoded) (K : State) → shown p d ≡ visible p K → kernel_timed K ≡ [] → timed_list d ≡ []
@@ -85,10 +86,10 @@ pub dump_shown : (p : Program) (words same : List ℕ) (K : State) → words ≡
 dump_shown p words same K is shows = ap (λ (v : Visible). text_of (dump_lines (names_of p) v)) (ap (λ (w : List ℕ). shown p (image_in w)) is ∙ shows)
 
 -- the steps of a run are those of its boots, since the dump leaves the device as it is
-pub same_steps : (p : Program) (n old middle new : ℕ) (first planned : List ℕ) (ends done_ends : List (List ℕ)) (words done_words : List ℕ)
-    → planned ≡ first → ends ≡ done_ends → words ≡ done_words → new ≡ middle → StepsWithin p n old middle planned done_ends done_words → StepsWithin p n old new first ends words
-same_steps p n old middle new first planned ends done_ends words done_words is_first is_ends is_words is_new within =
-    subst (λ (f : List ℕ). StepsWithin p n old new f ends words) is_first
-    (subst (λ (e : List (List ℕ)). StepsWithin p n old new planned e words) (sym is_ends)
-    (subst (λ (w : List ℕ). StepsWithin p n old new planned done_ends w) (sym is_words)
-    (subst (λ (k : ℕ). StepsWithin p n old k planned done_ends done_words) (sym is_new) within)))
+pub same_steps : (c : Course) (old middle new : ℕ) (first planned : List ℕ) (ends done_ends : List (List ℕ)) (words done_words : List ℕ)
+    → planned ≡ first → ends ≡ done_ends → words ≡ done_words → new ≡ middle → StepsWithin c old middle planned done_ends done_words → StepsWithin c old new first ends words
+same_steps c old middle new first planned ends done_ends words done_words is_first is_ends is_words is_new within =
+    subst (λ (f : List ℕ). StepsWithin c old new f ends words) is_first
+    (subst (λ (e : List (List ℕ)). StepsWithin c old new planned e words) (sym is_ends)
+    (subst (λ (w : List ℕ). StepsWithin c old new planned done_ends w) (sym is_words)
+    (subst (λ (k : ℕ). StepsWithin c old k planned done_ends done_words) (sym is_new) within)))

@@ -5,4 +5,5 @@ pub mod Program
 pub mod Refusals
 pub mod Report
 pub mod Runs
+pub mod Steps
 pub mod Top

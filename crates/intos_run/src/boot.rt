@@ -1,22 +1,23 @@
 // One boot: recovery, the boot's lines, and event after event until the last one or a cut.
-ghost use Rattle.std.specs.Prelude.{◌≡◌, ◌+◌, ◌-◌, ◌*◌, ◌<◌, ◌≤◌, [], ◌∷◌, ◌++◌, IsTrue, List, ℕ, Some};
+ghost use Rattle.std.specs.Prelude.{◌≡◌, ◌+◌, ◌-◌, ◌*◌, ◌<◌, ◌≤◌, [], ◌∷◌, ◌++◌, IsTrue, List, length, ℕ, Some};
 ghost use Rattle.outer_world.specs.Written.{put_to, IsPart};
 ghost use Rattle.thread_tree.specs.Program.{program_of};
 ghost use Rattle.undo_journal.specs.Undo.{entries, IsAtRest};
 ghost use Rattle.kernel_image.specs.Decoded.{image_in};
+ghost use Rattle.kernel_model.specs.Kernel.{State};
 ghost use Rattle.replay_list.specs.Kept.{counter_of};
-ghost use Rattle.replay_list.specs.Stands.{KernelStands};
 ghost use Rattle.served_program.specs.Served.{is_served};
-ghost use Rattle.kernel_boots.specs.Boots.{uncut, IsUnderWay};
+ghost use Rattle.kernel_boots.specs.Courses.{course, IsUnderWay, IsLive, AreSteps};
 ghost use Rattle.boot_report.specs.Lines.{dark_line};
-ghost use Rattle.intos_run.specs.Ends.{MatchEnd, HasEndCause, BootSteps, EndsDone, EndsCut, EndsFailed, IsDone, IsCut, IsFailed};
+ghost use Rattle.intos_run.specs.Ends.{MatchEnd, EachEnd, HasEndCause, BootSteps, EndsDone, EndsCut, EndsFailed, IsDone, IsCut, IsFailed};
 
 use boot_recovery::recover;
 use boot_report::{put_begin, put_cut, put_dark, put_end};
-use kernel_boots::{Stopped, beginning, work};
+use kernel_boots::{Stopped, World, beginning, work};
+use kernel_image::counter as events_of;
 use nv_memory::Nv;
 use outer_world::Sink;
-use replay_list::{Kernel, standing_laws};
+use replay_list::Kernel;
 use std::sync::ledger::Ledger;
 use step_counter::Steps;
 use thread_check::Checked;
@@ -47,39 +48,39 @@ fn device<N: Nv>(kernel: Kernel<N>) -> N
 }
 
 /// A boot behind its recovery: its lines, and event after event.
-fn live<N: Nv, S: Sink, L: Ledger>(
+fn live<N: Nv, W: World, S: Sink, L: Ledger>(
     kernel: Kernel<N>,
     number: u32,
     undone: u32,
     program: &Checked,
-    steps: u32,
+    world: &mut W,
     sink: &mut S,
     counter: &mut Steps<L>,
 ) -> BootEnd<N>
     requires at_rest { IsAtRest (N.words kernel.idle) }
     requires served { IsTrue (is_served program.now) }
-    requires few { steps ≤ 1000000 }
-    requires stands { KernelStands (program_of program.now) (image_in (N.words kernel.idle)) kernel.contexts (uncut (program_of program.now) steps (image_in (N.words kernel.idle)).events) }
-    requires within { (image_in (N.words kernel.idle)).events ≤ steps }
-    ensures ends { MatchEnd result
-        (EndsDone N.Nv (program_of program.now) steps number undone (image_in (N.words kernel.idle)).events kernel.idle (S.bytes sink.old) (S.bytes sink.new))
-        (EndsCut N.Nv (program_of program.now) steps number undone (image_in (N.words kernel.idle)).events kernel.idle (S.bytes sink.old) (S.bytes sink.new))
-        (EndsFailed N.Nv (program_of program.now) steps number undone (image_in (N.words kernel.idle)).events kernel.idle (S.bytes sink.old) (S.bytes sink.new)) }
+    requires all_steps { AreSteps (W.events world.old) }
+    requires few { length (W.events world.old) ≤ 1000000 }
+    requires floor { W.floor world.old ≤ (image_in (N.words kernel.idle)).events }
+    requires live { (K : State) × IsLive (course (program_of program.now) K (W.events world.old)) (image_in (N.words kernel.idle)) kernel.contexts }
+    ensures ends { (K : State) → IsLive (course (program_of program.now) K (W.events world.old)) (image_in (N.words kernel.idle)) kernel.contexts → MatchEnd result
+        (EndsDone N.Nv (course (program_of program.now) K (W.events world.old)) number undone (image_in (N.words kernel.idle)).events kernel.idle (S.bytes sink.old) (S.bytes sink.new))
+        (EndsCut N.Nv (course (program_of program.now) K (W.events world.old)) number undone (image_in (N.words kernel.idle)).events kernel.idle (S.bytes sink.old) (S.bytes sink.new))
+        (EndsFailed N.Nv (course (program_of program.now) K (W.events world.old)) number undone (image_in (N.words kernel.idle)).events kernel.idle (S.bytes sink.old) (S.bytes sink.new)) }
     ensures cause { HasEndCause result (S.faults sink.old) (S.faults sink.new) }
+    ensures same { W.events world.new ≡ W.events world.old }
+    ensures floor { EachEnd result (λ nv. W.floor world.new ≤ counter_of (N.words nv)) }
     ensures counted { counter.old ≤ counter.new }
-    ensures steps { MatchEnd result
-        (λ nv. counter.new + 10000 * (image_in (N.words kernel.idle)).events ≤ counter.old + 10000 * (counter_of (N.words nv) + 1))
-        (λ nv. counter.new + 10000 * (image_in (N.words kernel.idle)).events ≤ counter.old + 10000 * (counter_of (N.words nv) + 1))
-        (λ nv. counter.new + 10000 * (image_in (N.words kernel.idle)).events ≤ counter.old + 10000 * (counter_of (N.words nv) + 1)) }
+    ensures steps { EachEnd result (λ nv. counter.new + 10000 * (image_in (N.words kernel.idle)).events ≤ counter.old + 10000 * (counter_of (N.words nv) + 1)) }
 {
-    standing_laws();
     beginning();
     if put_begin(&kernel, program, sink, number, undone).is_err() {
         return BootEnd::SinkFailed(device(kernel));
     }
-    match work(kernel, program, steps, counter) {
+    match work(kernel, program, world, counter) {
         Ok(kernel) => {
-            if put_end(sink, number, steps).is_err() {
+            let events = events_of(&kernel.idle);
+            if put_end(sink, number, events).is_err() {
                 return BootEnd::SinkFailed(device(kernel));
             }
             BootEnd::Done(device(kernel))
@@ -118,35 +119,37 @@ fn dark<N: Nv, S: Sink>(dark: Dark<N>, number: u32, formatted: bool, sink: &mut 
     BootEnd::Cut(dark)
 }
 
-/// One boot. It is lent nothing of an earlier boot but the device (docs/BOOTS.md).
-pub fn boot<N: Nv, S: Sink, L: Ledger>(
+/// One boot, on whatever course its words are under way. It is lent nothing of an earlier boot but the device and the
+/// events that are to come (docs/BOOTS.md).
+pub fn boot<N: Nv, W: World, S: Sink, L: Ledger>(
     nv: N,
     number: u32,
     program: &Checked,
-    steps: u32,
+    world: &mut W,
     sink: &mut S,
     counter: &mut Steps<L>,
 ) -> BootEnd<N>
-    requires under_way { IsUnderWay (program_of program.now) steps (N.words nv) }
+    requires under_way { (K : State) × IsUnderWay (course (program_of program.now) K (W.events world.old)) (N.words nv) }
     requires served { IsTrue (is_served program.now) }
-    requires few { steps ≤ 1000000 }
-    ensures ends { MatchEnd result
-        (IsDone N.Nv (program_of program.now) steps number nv (S.bytes sink.old) (S.bytes sink.new))
-        (IsCut N.Nv (program_of program.now) steps number nv (S.bytes sink.old) (S.bytes sink.new))
-        (IsFailed N.Nv (program_of program.now) steps number nv (S.bytes sink.old) (S.bytes sink.new)) }
+    requires all_steps { AreSteps (W.events world.old) }
+    requires few { length (W.events world.old) ≤ 1000000 }
+    requires floor { W.floor world.old ≤ counter_of (N.words nv) }
+    ensures ends { (K : State) → IsUnderWay (course (program_of program.now) K (W.events world.old)) (N.words nv) → MatchEnd result
+        (IsDone N.Nv (course (program_of program.now) K (W.events world.old)) number nv (S.bytes sink.old) (S.bytes sink.new))
+        (IsCut N.Nv (course (program_of program.now) K (W.events world.old)) number nv (S.bytes sink.old) (S.bytes sink.new))
+        (IsFailed N.Nv (course (program_of program.now) K (W.events world.old)) number nv (S.bytes sink.old) (S.bytes sink.new)) }
     ensures cause { HasEndCause result (S.faults sink.old) (S.faults sink.new) }
+    ensures same { W.events world.new ≡ W.events world.old }
+    ensures floor { EachEnd result (λ end. W.floor world.new ≤ counter_of (N.words end)) }
     ensures counted { counter.old ≤ counter.new }
-    ensures steps { MatchEnd result
-        (λ end. BootSteps (program_of program.now) steps counter.old counter.new (N.words nv) (N.words end))
-        (λ end. BootSteps (program_of program.now) steps counter.old counter.new (N.words nv) (N.words end))
-        (λ end. BootSteps (program_of program.now) steps counter.old counter.new (N.words nv) (N.words end)) }
+    ensures steps { (K : State) → IsUnderWay (course (program_of program.now) K (W.events world.old)) (N.words nv)
+        → EachEnd result (λ end. BootSteps (course (program_of program.now) K (W.events world.old)) counter.old counter.new (N.words nv) (N.words end)) }
 {
-    standing_laws();
     beginning();
     let undone = entries_of(&nv);
     let formatted = nv.read(MAGIC_WORD) == MAGIC;
     match recover(nv, program, counter) {
-        Ok(kernel) => live(kernel, number, undone, program, steps, sink, counter),
+        Ok(kernel) => live(kernel, number, undone, program, world, sink, counter),
         Err(lost) => dark(lost, number, formatted, sink),
     }
 }

@@ -10,7 +10,9 @@ mod command;
 mod fault;
 mod job;
 mod refusal;
+mod step_world;
 mod top;
 
 pub use command::{Command, CommandFault, read_command};
+pub use step_world::StepWorld;
 pub use top::{Ended, run};

@@ -1,20 +1,23 @@
 // The top call: all that the program does.
-ghost use Rattle.std.specs.Prelude.{◌≡◌, ◌≢◌, IsTrue, ◌⊎◌, ◌<◌, ◌≤◌, ◌++◌, ℕ, List, [], ◌∷◌, length, map, string_bytes, false, Some, None, MatchResult, codes};
+ghost use Rattle.std.specs.Prelude.{◌≡◌, ◌≢◌, IsTrue, ◌⊎◌, ◌<◌, ◌≤◌, ◌++◌, ℕ, List, [], ◌∷◌, length, map, string_bytes, false, slice_index, Some, None, MatchResult, codes};
 ghost use Rattle.nv_memory.specs.Blank.{blank_words};
 ghost use Rattle.outer_world.specs.Causes.{HasCause, Rose, RoseBy};
 ghost use Rattle.outer_world.specs.Written.{put_to, IsPart, Puts};
-ghost use Rattle.kernel_model.specs.Dump.{text_of};
+ghost use Rattle.kernel_model.specs.Dump.{dump_lines, text_of};
+ghost use Rattle.kernel_model.specs.Kernel.{State};
+ghost use Rattle.kernel_model.specs.Show.{names_of, timed_list, visible};
 ghost use Rattle.undo_journal.specs.Undo.{IsAtRest};
 ghost use Rattle.thread_tree.specs.Program.{program_of};
 ghost use Rattle.kernel_image.specs.Decoded.{image_in};
 ghost use Rattle.replay_list.specs.Kept.{counter_of};
 ghost use Rattle.replay_list.specs.Stands.{Stands};
 ghost use Rattle.served_program.specs.Served.{is_served};
-ghost use Rattle.kernel_boots.specs.Boots.{uncut};
+ghost use Rattle.kernel_boots.specs.Courses.{uncut, last};
 ghost use Rattle.intos_run.specs.Command.{IsCommand};
 ghost use Rattle.intos_run.specs.Refusals.{IsStatus, IsRefusal, IsUndefined, Tells, line_of, status_of, faulty_line};
-ghost use Rattle.intos_run.specs.Report.{dump_after, report};
-ghost use Rattle.intos_run.specs.Runs.{StepsWithin, HasBudgets, HasImages, IsUntouched};
+ghost use Rattle.intos_run.specs.Report.{report};
+ghost use Rattle.intos_run.specs.Runs.{StepsWithin, budgets_of, HasBudgets, HasImages, IsWhole, IsBroken, IsUntouched};
+ghost use Rattle.intos_run.specs.Steps.{steps_course};
 ghost use Rattle.intos_run.specs.Top.{Task, Asks, AreAccepted, IsRefusedBy};
 ghost use Rattle.intos_run.specs.declared.fault.Fault.{Fault};
 ghost use Rattle.intos_run.specs.declared.refusal.Refusal.TheVariants.{NoMemory};
@@ -23,6 +26,7 @@ ghost use Rattle.thread_tree.specs.declared.place.Place.{Place};
 use crate::boots::run_boots;
 use crate::job::{Job, read_job};
 use crate::refusal::Refusal;
+use crate::step_world::StepWorld;
 use kernel_boots::beginning;
 use kernel_dump::put_dump;
 use nv_memory::Nv;
@@ -57,7 +61,7 @@ fn refuse<N: Nv, S: Sink>(refusal: Refusal, sink: &mut S, nv: N) -> Ended<N>
     }
 }
 
-/// Writes the dump of a device at rest on which so many events are committed, all of the run.
+/// Writes the dump of a device at rest, of the kernel for which it stands.
 ///
 /// # Errors
 ///
@@ -65,23 +69,22 @@ fn refuse<N: Nv, S: Sink>(refusal: Refusal, sink: &mut S, nv: N) -> Ended<N>
 fn dump<N: Nv, S: Sink, L: Ledger>(
     nv: N,
     program: &Checked,
-    events: u32,
     sink: &mut S,
     steps: &mut Steps<L>,
 ) -> Result<N, N>
     requires at_rest { IsAtRest (N.words nv) }
     requires served { IsTrue (is_served program.now) }
-    requires stands { Stands (program_of program.now) (image_in (N.words nv)) (uncut (program_of program.now) events events) }
+    requires stands { (K : State) × Stands (program_of program.now) (image_in (N.words nv)) K × (timed_list K ≡ []) }
     ensures words { MatchResult result (λ same. N.words same ≡ N.words nv) (λ same. N.words same ≡ N.words nv) }
     ensures left { MatchResult result (λ same. N.left same ≡ N.left nv) (λ same. N.left same ≡ N.left nv) }
     ensures to_come { MatchResult result (λ same. N.to_come same ≡ N.to_come nv) (λ same. N.to_come same ≡ N.to_come nv) }
     ensures ends { MatchResult result (λ same. N.ends same ≡ N.ends nv) (λ same. N.ends same ≡ N.ends nv) }
-    ensures puts { Puts result (S.bytes sink.old) (S.bytes sink.new) (text_of (dump_after (program_of program.now) events events)) }
+    ensures puts { (K : State) → Stands (program_of program.now) (image_in (N.words nv)) K
+        → Puts result (S.bytes sink.old) (S.bytes sink.new) (text_of (dump_lines (names_of (program_of program.now)) (visible (program_of program.now) K))) }
     ensures cause { HasCause (S.faults sink.old) (S.faults sink.new) result }
     ensures steps { steps.new ≡ steps.old }
 {
     served_laws();
-    served_runs();
     match settle(nv, steps) {
         Ok(idle) => match put_dump(&idle, program, sink) {
             Ok(()) => Ok(idle.rest()),
@@ -89,6 +92,40 @@ fn dump<N: Nv, S: Sink, L: Ledger>(
         },
         Err(dark) => Err(dark.leave()),
     }
+}
+
+/// Runs so many steps from the start of a program, on a device that isn't formatted.
+///
+/// # Errors
+///
+/// The device, where the sink failed.
+fn run_steps<N: Nv, S: Sink, L: Ledger>(
+    nv: N,
+    program: &Checked,
+    steps: u32,
+    sink: &mut S,
+    counter: &mut Steps<L>,
+) -> Result<N, N>
+    requires blank { slice_index (N.words nv) 0 ≡ 0 }
+    requires served { IsTrue (is_served program.now) }
+    requires few_steps { steps ≤ 1000000 }
+    requires few_budgets { length (budgets_of (N.left nv) (N.to_come nv)) ≤ 1000 }
+    requires mains { N.left nv ≡ None → N.to_come nv ≡ [] }
+    requires no_ends { N.ends nv ≡ [] }
+    ensures run { MatchResult result
+        (IsWhole N.Nv (steps_course (program_of program.now) steps) (budgets_of (N.left nv) (N.to_come nv)) (N.words nv) (S.bytes sink.old) (S.bytes sink.new))
+        (IsBroken N.Nv (steps_course (program_of program.now) steps) (budgets_of (N.left nv) (N.to_come nv)) (N.words nv) (S.bytes sink.old) (S.bytes sink.new)) }
+    ensures all { last (steps_course (program_of program.now) steps) ≡ steps }
+    ensures untimed { timed_list (uncut (steps_course (program_of program.now) steps) steps) ≡ [] }
+    ensures cause { MatchResult result (λ _. S.faults sink.new ≡ S.faults sink.old) (λ _. Rose (S.faults sink.old) (S.faults sink.new)) }
+    ensures steps { MatchResult result
+        (λ end. StepsWithin (steps_course (program_of program.now) steps) counter.old counter.new (N.words nv) (N.ends end) (N.words end))
+        (λ end. StepsWithin (steps_course (program_of program.now) steps) counter.old counter.new (N.words nv) (N.ends end) (N.words end)) }
+{
+    beginning();
+    served_runs();
+    let mut world = StepWorld { steps, asked: 0 };
+    run_boots(nv, program, &mut world, sink, counter)
 }
 
 /// Gives the device its budgets and runs it.
@@ -108,24 +145,23 @@ fn run_job<N: Nv, S: Sink, L: Ledger>(
     requires few_cuts { length job.now.cuts.items ≤ 1000 }
     ensures statuses { (result.status ≡ 0) ⊎ ((result.status ≡ 6) ⊎ (result.status ≡ 7)) }
     ensures budgets { result.status ≢ 7 → HasBudgets job.now.cuts.items (N.ends result.nv) (N.left result.nv) (N.to_come result.nv) }
-    ensures images { result.status ≢ 7 → HasImages (program_of job.now.program) job.now.steps job.now.cuts.items (N.words nv) (N.ends result.nv) (N.words result.nv) }
+    ensures images { result.status ≢ 7 → HasImages (steps_course (program_of job.now.program) job.now.steps) job.now.cuts.items (N.words nv) (N.ends result.nv) (N.words result.nv) }
     ensures complete { result.status ≡ 0 → counter_of (N.words result.nv) ≡ job.now.steps }
-    ensures text { result.status ≡ 0 → S.bytes sink.new ≡ put_to (S.bytes sink.old) (report (program_of job.now.program) job.now.steps job.now.cuts.items (N.words nv) (N.ends result.nv) (N.words result.nv)) }
-    ensures part { result.status ≡ 6 → IsPart (S.bytes sink.old) (S.bytes sink.new) (report (program_of job.now.program) job.now.steps job.now.cuts.items (N.words nv) (N.ends result.nv) (N.words result.nv)) }
+    ensures text { result.status ≡ 0 → S.bytes sink.new ≡ put_to (S.bytes sink.old) (report (steps_course (program_of job.now.program) job.now.steps) job.now.cuts.items (N.words nv) (N.ends result.nv) (N.words result.nv)) }
+    ensures part { result.status ≡ 6 → IsPart (S.bytes sink.old) (S.bytes sink.new) (report (steps_course (program_of job.now.program) job.now.steps) job.now.cuts.items (N.words nv) (N.ends result.nv) (N.words result.nv)) }
     ensures broken { result.status ≡ 6 → Rose (S.faults sink.old) (S.faults sink.new) }
     ensures faults { result.status ≡ 0 → S.faults sink.new ≡ S.faults sink.old }
     ensures memory { result.status ≡ 7 → Tells (line_of NoMemory) (S.bytes sink.old) (S.bytes sink.new) (S.faults sink.old) (S.faults sink.new) }
     ensures untouched { result.status ≡ 7 → IsUntouched N.Nv nv result.nv }
-    ensures steps { result.status ≢ 7 → StepsWithin (program_of job.now.program) job.now.steps steps.old steps.new (N.words nv) (N.ends result.nv) (N.words result.nv) }
+    ensures steps { result.status ≢ 7 → StepsWithin (steps_course (program_of job.now.program) job.now.steps) steps.old steps.new (N.words nv) (N.ends result.nv) (N.words result.nv) }
     ensures uncounted { result.status ≡ 7 → steps.new ≡ steps.old }
 {
-    beginning();
     let mut nv = nv;
     if nv.plan(alloc, &job.cuts).is_err() {
         return refuse(Refusal::NoMemory, sink, nv);
     }
-    match run_boots(nv, &job.program, job.steps, sink, steps) {
-        Ok(done) => match dump(done, &job.program, job.steps, sink, steps) {
+    match run_steps(nv, &job.program, job.steps, sink, steps) {
+        Ok(done) => match dump(done, &job.program, sink, steps) {
             Ok(nv) => Ended { status: 0, nv },
             Err(nv) => Ended { status: 6, nv },
         },
@@ -157,14 +193,14 @@ pub fn run<F: Files, S: Sink, N: Nv, L: Ledger>(
 
     // Every image and the last words are kept for the uncut run, and the events that they count never fall.
     ensures images { result.status ≡ 0 ⊎ result.status ≡ 6 → (task : Task) → Asks (map string_bytes words.now.items) (F.contents files.old) task
-        → HasImages (program_of task.tree) task.steps task.cuts (N.words nv) (N.ends result.nv) (N.words result.nv) }
+        → HasImages (steps_course (program_of task.tree) task.steps) task.cuts (N.words nv) (N.ends result.nv) (N.words result.nv) }
 
     // With status 0 every event is committed, and the bytes put are the report; with status 6 a prefix of it.
     ensures complete { result.status ≡ 0 → (task : Task) → Asks (map string_bytes words.now.items) (F.contents files.old) task → counter_of (N.words result.nv) ≡ task.steps }
     ensures text { result.status ≡ 0 → (task : Task) → Asks (map string_bytes words.now.items) (F.contents files.old) task
-        → S.bytes sink.new ≡ put_to (S.bytes sink.old) (report (program_of task.tree) task.steps task.cuts (N.words nv) (N.ends result.nv) (N.words result.nv)) }
+        → S.bytes sink.new ≡ put_to (S.bytes sink.old) (report (steps_course (program_of task.tree) task.steps) task.cuts (N.words nv) (N.ends result.nv) (N.words result.nv)) }
     ensures text_so_far { result.status ≡ 6 → (task : Task) → Asks (map string_bytes words.now.items) (F.contents files.old) task
-        → IsPart (S.bytes sink.old) (S.bytes sink.new) (report (program_of task.tree) task.steps task.cuts (N.words nv) (N.ends result.nv) (N.words result.nv)) }
+        → IsPart (S.bytes sink.old) (S.bytes sink.new) (report (steps_course (program_of task.tree) task.steps) task.cuts (N.words nv) (N.ends result.nv) (N.words result.nv)) }
 
     // Each status has its cause, and a run that isn't begun puts its line and nothing else.
     ensures statuses { IsStatus result.status }
@@ -190,7 +226,7 @@ pub fn run<F: Files, S: Sink, N: Nv, L: Ledger>(
 
     // The steps are at most those that the recoveries of its boots may take and 10,000 for each event and each boot.
     ensures steps { result.status ≡ 0 ⊎ result.status ≡ 6 → (task : Task) → Asks (map string_bytes words.now.items) (F.contents files.old) task
-        → StepsWithin (program_of task.tree) task.steps steps.old steps.new (N.words nv) (N.ends result.nv) (N.words result.nv) }
+        → StepsWithin (steps_course (program_of task.tree) task.steps) steps.old steps.new (N.words nv) (N.ends result.nv) (N.words result.nv) }
     ensures uncounted { IsRefusal result.status → steps.new ≡ steps.old }
 {
     match read_job(alloc, words, files) {

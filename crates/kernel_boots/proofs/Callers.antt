@@ -1,2 +1,2 @@
 -- What the crates above may cite of these proofs.
-pub use Rattle.kernel_boots.proofs.UncutLaws.{at-most-then, at-most-same}
+pub use Rattle.kernel_boots.proofs.SpentLaws.{at-most-then, at-most-same}

@@ -1,2 +1,3 @@
 pub mod Callers
-mod UncutLaws
+mod CourseLaws
+mod SpentLaws

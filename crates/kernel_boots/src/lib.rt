@@ -1,10 +1,10 @@
-//! One boot of the kernel: recovery from the words alone, and then event after event (docs/EVENTS.md).
+//! The part of a boot behind its recovery: event after event of a course (docs/EVENTS.md, docs/BOOTS.md).
 #![tactic(auto)]
 
 mod blank;
-mod booting;
 mod working;
+mod world;
 
 pub use blank::beginning;
-pub use booting::boot;
 pub use working::{Stopped, work};
+pub use world::World;

@@ -13,7 +13,7 @@ use Rattle.thread_tree.specs.Program.{Program, sorted, program_of}
 use Rattle.thread_tree.specs.Limits.{IsWithinLimits}
 use Rattle.kernel_image.specs.Declarations.{name_of as declared_name}
 use Rattle.kernel_model.specs.Names.{Kind, kind_of, name_of}
-use Rattle.kernel_model.specs.Numbers.{fields_of}
+use Rattle.thread_tree.specs.Numbers.{fields_of}
 use Rattle.kernel_model.specs.Show.{bytes_of, names_of}
 use Rattle.kernel_dump.specs.declared.sort.Sort.{Sort}
 use Rattle.kernel_dump.specs.declared.sort.Sort.TheVariants as sort

@@ -12,7 +12,7 @@ use Rattle.thread_tree.specs.declared.tree.Tree.{Tree}
 use Rattle.thread_tree.specs.Program.{Program, program_of}
 use Rattle.kernel_model.specs.Dump.{object_line, object_lines}
 use Rattle.kernel_model.specs.Names.{Names, Kind, kind_of}
-use Rattle.kernel_model.specs.Numbers.{fields_of}
+use Rattle.thread_tree.specs.Numbers.{fields_of}
 use Rattle.kernel_model.specs.Show.{bytes_of, names_of}
 use Rattle.kernel_model.specs.Visible.{Object}
 use Rattle.kernel_image.specs.declared.cell.Cell.{Cell}

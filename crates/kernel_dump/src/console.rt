@@ -1,6 +1,6 @@
 // The lines of the console.
 ghost use Rattle.std.specs.Prelude.{◌≡◌, ◌≢◌, ◌+◌, ◌<◌, ◌≤◌, [], ◌∷◌, ℕ, length, map, slice_index};
-ghost use Rattle.outer_world.specs.Causes.{HasCause};
+ghost use Rattle.outer_world.specs.Causes.{count_after, HasCause};
 ghost use Rattle.outer_world.specs.Written.{Puts};
 ghost use Rattle.kernel_model.specs.Dump.{console_line, console_lines, console_size_line, text_of};
 ghost use Rattle.kernel_image.specs.Decoded.{image_in};
@@ -76,6 +76,7 @@ fn put_console_line<S: Sink>(line: &[u8], sink: &mut S) -> Result<(), SinkFault>
     requires short { length line.now ≤ CONSOLE_ROOM }
     ensures puts { Puts result (S.bytes sink.old) (S.bytes sink.new) (text_of (console_line line.now ∷ [])) }
     ensures cause { HasCause (S.faults sink.old) (S.faults sink.new) result }
+    ensures one_piece { S.pieces sink.new ≡ count_after 1 (S.pieces sink.old) }
 {
     sink.put(marked(line).as_slice())?;
     Ok(())

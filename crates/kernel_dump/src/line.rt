@@ -1,7 +1,7 @@
 // A line of text, while it is made.
 ghost use Rattle.std.specs.Prelude.{◌≡◌, ◌+◌, ◌<◌, ◌≤◌, [], ◌∷◌, ◌++◌, length};
 ghost use Rattle.std.specs.Fmt.{decimal};
-ghost use Rattle.outer_world.specs.Causes.{HasCause};
+ghost use Rattle.outer_world.specs.Causes.{count_after, HasCause};
 ghost use Rattle.outer_world.specs.Written.{Puts};
 
 use arrayvec::ArrayVec;
@@ -76,6 +76,7 @@ impl Line {
         requires room { length self < 2048 }
         ensures puts { Puts result (S.bytes sink.old) (S.bytes sink.new) (self ++ 10 ∷ []) }
         ensures cause { HasCause (S.faults sink.old) (S.faults sink.new) result }
+        ensures one_piece { S.pieces sink.new ≡ count_after 1 (S.pieces sink.old) }
     {
         let Line { mut text } = self;
         text.push(b'\n');

@@ -35,7 +35,8 @@ use Rattle.kernel_model.specs.Serve.Fate.{Serves, Stops}
 use Rattle.kernel_model.specs.Sound.{IsSound}
 use Rattle.kernel_image.specs.Decoded.{Decoded, RowWords, blank_row, row_at, with_row, listed}
 use Rattle.kernel_image.specs.Shown.{objects_in, byte_of}
-use Rattle.persistent_objects.specs.Holes.{AreHoles}
+use Rattle.kernel_image.specs.Unread.{links_of}
+use Rattle.persistent_objects.specs.Layout.{IsLaidOut}
 use Rattle.replay_list.proofs.Callers.{both_length, agrees_recorded, agrees_ended, row_live, shows_parts}
 use Rattle.replay_list.specs.Records.{IsRecorded}
 use Rattle.replay_list.specs.Stands.{IsRow, IsLife, KernelStands, console_in}
@@ -58,7 +59,8 @@ stands-after p d contexts K sound follows = record {
     counts = follows.counts;
     console = follows.console;
     objects = follows.objects;
-    holes = follows.holes;
+    layout = follows.layout;
+    unread = follows.unread;
     stamp = follows.stamp;
     few_stamps = follows.few_stamps;
   };
@@ -69,34 +71,34 @@ stands-after p d contexts K sound follows = record {
 pub record IsDone (p : Program) (thread : Thread) (s : Stmt) (action : Action) (results : List ℕ) : Type 0 where
   pub ready : thread.activity ≡ Ready
   pub arrives : (ahead p thread.local).arrival ≡ AtAction s
-  pub is_action : action_of s ≡ Some action
+  pub is_action : action_of p s ≡ Some action
   pub recorded : is_unrecorded action.kind ≡ false
   pub many : length results ≡ result_count action.kind action.given
 
 -- the law of a row with one record more
 abbrev pub ServedLaw : Program → Type 0
-ServedLaw p = (old new : RowWords) (thread : Thread) (s : Stmt) (action : Action) (results : List ℕ) → IsLife p old thread → IsRecorded (kind_word action.kind action.given) results old new → thread.activity ≡ Ready → (ahead p thread.local).arrival ≡ AtAction s → action_of s ≡ Some action → is_unrecorded action.kind ≡ false → length results ≡ result_count action.kind action.given → IsLife p new (served results (arrived (ahead p thread.local) thread))
+ServedLaw p = (old new : RowWords) (thread : Thread) (s : Stmt) (action : Action) (results : List ℕ) → IsLife p old thread → IsRecorded (kind_word action.kind action.given) results old new → thread.activity ≡ Ready → (ahead p thread.local).arrival ≡ AtAction s → action_of p s ≡ Some action → is_unrecorded action.kind ≡ false → length results ≡ result_count action.kind action.given → IsLife p new (served p results (arrived (ahead p thread.local) thread))
 
 module _ (p : Program) (d new : Decoded) (before : List (Option Ctx)) (K : State) (t : ℕ) (thread : Thread) (ctx now : Ctx) where
   -- a thread was served, and the console and the objects are these
-  pub follows-served : (s : Stmt) (action : Action) (results console : List ℕ) (objects : List Object) → ServedLaw p → KernelStands p d before K → thread_of K t ≡ Some thread → IsDone p thread s action results → IsServed t (kind_word action.kind action.given) results d new → console_in new ≡ console → objects_in p new.heap new.live ≡ objects → AreHoles new.heap new.first_hole first_place objects → local_of p ctx ≡ (ahead p thread.local).local → local_of p now ≡ bind (local_of p ctx) results → IsContext p now
-      → Follows p new (slice_set before t (Some now)) (settle t (Serves results) (record (run_ahead p K t thread) { console = console; objects = objects }))
-  follows-served s action results console objects law stands lives done is_served on are holes arrives bound context =
+  pub follows-served : (s : Stmt) (action : Action) (results console : List ℕ) (objects : List Object) → ServedLaw p → KernelStands p d before K → thread_of K t ≡ Some thread → IsDone p thread s action results → IsServed t (kind_word action.kind action.given) results d new → console_in new ≡ console → objects_in p new.heap new.live ≡ objects → IsLaidOut new.heap new.first_hole first_place objects → local_of p ctx ≡ (ahead p thread.local).local → local_of p now ≡ bind p (local_of p ctx) results → IsContext p now
+      → Follows p new (slice_set before t (Some now)) (settle p t (Serves results) (record (run_ahead p K t thread) { console = console; objects = objects }))
+  follows-served s action results console objects law stands lives done is_served on are layout arrives bound context =
       let old_row = row_live p d.rows K.rows t thread stands.image.rows lives in
       let life = law (row_at d t) (row_at new t) thread s action results old_row.1 is_served.row done.ready done.arrives done.is_action done.recorded done.many in
-      let agrees = agrees_recorded (row_at d t) (row_at new t) thread (ahead p thread.local) (kind_word action.kind action.given) results old_row.0 is_served.row in
-      let local : local_of p now ≡ bind (ahead p thread.local).local results = bound ∙ ap (λ s. bind s results) arrives in
+      let agrees = agrees_recorded p (row_at d t) (row_at new t) thread (ahead p thread.local) (kind_word action.kind action.given) results old_row.0 is_served.row in
+      let local : local_of p now ≡ bind p (ahead p thread.local).local results = bound ∙ ap (λ s. bind p s results) arrives in
       subst (Follows p new (slice_set before t (Some now))) (sym (served-is p K t thread results console objects lives))
-      (follows-row p d new before K t (Live (served results (arrived (ahead p thread.local) thread))) (Some now) console objects stands is_served.rest (agrees, life) (record { local = local; context = context }) on are holes)
+      (follows-row p d new before K t (Live (served p results (arrived (ahead p thread.local) thread))) (Some now) console objects stands is_served.rest (agrees, life) (ap links_of is_served.row.rest) (record { local = local; context = context }) on are layout)
 
 -- the effect of a print, by whether it fits
-printed-by : (K : State) (t : ℕ) (bytes : List ℕ) (b : Bool) → nat_le (length K.console + length bytes) console_room ≡ b → settled t (print K bytes) ≡ settle t (Serves (ok_of b ∷ [])) (record K { console = printed_on b K.console bytes })
-printed-by K t bytes true is = rw is refl
-printed-by K t bytes false is = rw is refl
+printed-by : (p : Program) (K : State) (t : ℕ) (bytes : List ℕ) (b : Bool) → nat_le (length K.console + length bytes) console_room ≡ b → settled p t (print K bytes) ≡ settle p t (Serves (ok_of b ∷ [])) (record K { console = printed_on b K.console bytes })
+printed-by p K t bytes true is = rw is refl
+printed-by p K t bytes false is = rw is refl
 
 -- the words that a statement needs, by its layer
-abbrev pub needed_by : ℕ → List Local → Stmt-F Stmt Block → ℕ
-needed_by t locals layer = if deletes_itself t locals (call_of layer) then 0 else words_of (action_layer layer)
+abbrev pub needed_by : Program → ℕ → List Local → Stmt-F Stmt Block → ℕ
+needed_by p t locals layer = if deletes_itself t locals (call_of layer) then 0 else words_of (action_layer p layer)
 
 -- what is at most the room isn't more than it
 pub at_most : (n : ℕ) → n ≤ 256 → nat_lt 256 n ≡ false
@@ -109,34 +111,34 @@ console-length d = length-map-range_with_len (byte_of d.console) 0 d.console_len
 
 module _ (p : Program) (d new : Decoded) (before : List (Option Ctx)) (K : State) (t : ℕ) (thread : Thread) (ctx now : Ctx) where
   -- a print
-  pub stands-printed : (s : Stmt) (place : Place) (items : List Item) (to : List At) → ServedLaw p → IsSound p (one p K Step) → KernelStands p d before K → chosen K ≡ Some t → thread_of K t ≡ Some thread → thread.activity ≡ Ready → (ahead p thread.local).arrival ≡ AtAction s → out-Stmt s ≡ Call place (Print items) to → thread.debt + 2 ≤ 256 → local_of p ctx ≡ (ahead p thread.local).local → IsPrinted t (printed_line (local_of p ctx).top.locals items) d new (local_of p ctx) (local_of p now) → IsContext p now
+  pub stands-printed : (s : Stmt) (place : Place) (items : List Item) (to : List At) → ServedLaw p → IsSound p (one p K Step) → KernelStands p d before K → chosen K ≡ Some t → thread_of K t ≡ Some thread → thread.activity ≡ Ready → (ahead p thread.local).arrival ≡ AtAction s → out-Stmt s ≡ Call place (Print items) to → thread.debt + 2 ≤ 256 → local_of p ctx ≡ (ahead p thread.local).local → IsPrinted p t (printed_line (local_of p ctx).top.locals items) d new (local_of p ctx) (local_of p now) → IsContext p now
       → KernelStands p new (slice_set before t (Some now)) (one p K Step)
   stands-printed s place items to law sound stands some lives ready arrival layer room arrives printed context =
       let locals = (ahead p thread.local).local.top.locals in
       let bytes = printed_line (local_of p ctx).top.locals items in
       let fits = fits_on d bytes in
       let line : bytes ≡ printed_line locals items = ap (λ local. printed_line local.top.locals items) arrives in
-      let action : action_of s ≡ Some (print_action items (taking to)) = ap action_layer layer in
+      let action : action_of p s ≡ Some (print_action items (taking to)) = ap (action_layer p) layer in
       let done : IsDone p thread s (print_action items (taking to)) (ok_of fits ∷ []) = record { ready = ready; arrives = arrival; is_action = action; recorded = refl; many = refl } in
       let size : length K.console ≡ d.console_length = ap length (sym stands.image.console) ∙ console-length d in
       let same_fits : nat_le (length K.console + length bytes) console_room ≡ fits = ap (λ n. nat_le (n + length bytes) console_room) size in
-      let needed : need t locals s ≡ 2 = ap (needed_by t locals) layer in
+      let needed : need p t locals s ≡ 2 = ap (needed_by p t locals) layer in
       let no_more : nat_lt record_room (wanted p t thread s) ≡ false = rw needed (at_most (thread.debt + 2) room) in
       let stepped = step-acted p K t thread s some lives arrival no_more in
       let effect : effect_of p (run_ahead p K t thread) t locals s ≡ print (run_ahead p K t thread) bytes = ap (effect_of_layer p (run_ahead p K t thread) t locals) layer ∙ ap (print (run_ahead p K t thread)) (sym line) in
-      let after : one p K Step ≡ settle t (Serves (ok_of fits ∷ [])) (record (run_ahead p K t thread) { console = printed_on fits K.console bytes; objects = K.objects }) =
-      stepped ∙ ap (settled t) effect ∙ printed-by (run_ahead p K t thread) t bytes fits same_fits in
+      let after : one p K Step ≡ settle p t (Serves (ok_of fits ∷ [])) (record (run_ahead p K t thread) { console = printed_on fits K.console bytes; objects = K.objects }) =
+      stepped ∙ ap (settled p t) effect ∙ printed-by p (run_ahead p K t thread) t bytes fits same_fits in
       let on : console_in new ≡ printed_on fits K.console bytes = printed.console ∙ ap (λ console. printed_on fits console bytes) stands.image.console in
       let live : new.live ≡ d.live = ap (λ (x : Decoded). x.live) printed.served.rest in
       let first : new.first_hole ≡ d.first_hole = ap (λ (x : Decoded). x.first_hole) printed.served.rest in
       let are : objects_in p new.heap new.live ≡ K.objects = ap (λ heap. objects_in p heap new.live) printed.heap ∙ ap (objects_in p d.heap) live ∙ stands.image.objects in
-      let holes : AreHoles new.heap new.first_hole first_place K.objects = subst (λ heap. AreHoles heap new.first_hole first_place K.objects) (sym printed.heap) (subst (λ hole. AreHoles d.heap hole first_place K.objects) (sym first) stands.image.holes) in
+      let layout : IsLaidOut new.heap new.first_hole first_place K.objects = subst (λ heap. IsLaidOut heap new.first_hole first_place K.objects) (sym printed.heap) (subst (λ hole. IsLaidOut d.heap hole first_place K.objects) (sym first) stands.image.layout) in
       stands-after p new (slice_set before t (Some now)) (one p K Step) sound
       (subst (Follows p new (slice_set before t (Some now))) (sym after)
-      (follows-served p d new before K t thread ctx now s (print_action items (taking to)) (ok_of fits ∷ []) (printed_on fits K.console bytes) K.objects law stands lives done printed.served on are holes arrives printed.bound context))
+      (follows-served p d new before K t thread ctx now s (print_action items (taking to)) (ok_of fits ∷ []) (printed_on fits K.console bytes) K.objects law stands lives done printed.served on are layout arrives printed.bound context))
 
   -- a thread that ends with a code
-  pub stands-stopped : (code : ℕ) → IsSound p (one p K Step) → KernelStands p d before K → thread_of K t ≡ Some thread → one p K Step ≡ settle t (Stops code) (run_ahead p K t thread) → new ≡ with_row (record d { events = d.events + 1 }) t (record (row_at d t) { state = 4; code = code })
+  pub stands-stopped : (code : ℕ) → IsSound p (one p K Step) → KernelStands p d before K → thread_of K t ≡ Some thread → one p K Step ≡ settle p t (Stops code) (run_ahead p K t thread) → new ≡ with_row (record d { events = d.events + 1 }) t (record (row_at d t) { state = 4; code = code })
       → KernelStands p new (slice_set before t None) (one p K Step)
   stands-stopped code sound stands lives after same =
       let old_row = row_live p d.rows K.rows t thread stands.image.rows lives in
@@ -148,10 +150,10 @@ module _ (p : Program) (d new : Decoded) (before : List (Option Ctx)) (K : State
       let first : new.first_hole ≡ d.first_hole = ap (λ (x : Decoded). x.first_hole) same in
       let on : console_in new ≡ K.console = ap console_in same ∙ stands.image.console in
       let are : objects_in p new.heap new.live ≡ K.objects = ap (λ heap. objects_in p heap new.live) heap ∙ ap (objects_in p d.heap) live ∙ stands.image.objects in
-      let holes : AreHoles new.heap new.first_hole first_place K.objects = subst (λ heap. AreHoles heap new.first_hole first_place K.objects) (sym heap) (subst (λ hole. AreHoles d.heap hole first_place K.objects) (sym first) stands.image.holes) in
+      let layout : IsLaidOut new.heap new.first_hole first_place K.objects = subst (λ heap. IsLaidOut heap new.first_hole first_place K.objects) (sym heap) (subst (λ hole. IsLaidOut d.heap hole first_place K.objects) (sym first) stands.image.layout) in
       stands-after p new (slice_set before t None) (one p K Step) sound
       (subst (Follows p new (slice_set before t None)) (sym (after ∙ stopped-is p K t thread code lives))
-      (follows-row p d new before K t (Ended thread.template thread.priority code) None K.console K.objects stands rest (agrees_ended (row_at d t) (row_at new t) thread code old_row.0 row, tt) tt on are holes))
+      (follows-row p d new before K t (Ended thread.template thread.priority code) None K.console K.objects stands rest (agrees_ended (row_at d t) (row_at new t) thread code old_row.0 row, tt) (ap links_of row) tt on are layout))
 
 -- nobody is ready
 pub stands-nobody : (p : Program) (d new : Decoded) (contexts : List (Option Ctx)) (K : State) → IsSound p (one p K Step) → KernelStands p d contexts K → chosen K ≡ None → new ≡ record d { events = d.events + 1 } → KernelStands p new contexts (one p K Step)

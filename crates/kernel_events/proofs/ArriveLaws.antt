@@ -91,8 +91,8 @@ module _ (p : Program) (d : Decoded) (contexts : List (Option Ctx)) (K : State) 
   pub statement-here : (number : ℕ) (s : Stmt) → Arrives p d contexts K t thread ctx (next.Action number) → slice_get (actions p) number ≡ Some s → next_statement (local_of p ctx).top.todo ≡ Some s
   statement-here number s a here = ap (λ (local : LocalState). next_statement local.top.todo) a.arrived ∙ ahead-before p thread.local s (action-here number s a here)
 
-  pub action-is : (number : ℕ) (s : Stmt) → Arrives p d contexts K t thread ctx (next.Action number) → slice_get (actions p) number ≡ Some s → next_action (local_of p ctx) ≡ action_of s
-  action-is number s a here = ap (λ (found : Option Stmt). elim found as (λ _. Option Action) [ None ↦ None | Some statement ↦ action_of statement ]) (statement-here number s a here)
+  pub action-is : (number : ℕ) (s : Stmt) → Arrives p d contexts K t thread ctx (next.Action number) → slice_get (actions p) number ≡ Some s → next_action p (local_of p ctx) ≡ action_of p s
+  action-is number s a here = ap (λ (found : Option Stmt). elim found as (λ _. Option Action) [ None ↦ None | Some statement ↦ action_of p statement ]) (statement-here number s a here)
 
   -- the records have no room
   pub stands-full : (number : ℕ) (s : Stmt) (new : Decoded) → KeptLaw → IsWithinLimits p → Arrives p d contexts K t thread ctx (next.Action number) → slice_get (actions p) number ≡ Some s → 256 < wanted p t thread s → new ≡ with_row (record d { events = d.events + 1 }) t (record (row_at d t) { state = 4; code = 4 }) → KernelStands p new contexts (one p K Step)
@@ -102,7 +102,7 @@ module _ (p : Program) (d : Decoded) (contexts : List (Option Ctx)) (K : State) 
       subst (λ contexts. KernelStands p new contexts (one p K Step)) (sym a.taken) (stands-stopped p d new a.before K t thread ctx ctx 4 sound a.stands a.lives after same)
 
   -- a print with room for its record
-  pub stands-print : (number : ℕ) (s : Stmt) (place : Place) (items : List Item) (to : List At) (new : Decoded) (now : Ctx) → ServedLaw p → KeptLaw → IsWithinLimits p → Arrives p d contexts K t thread ctx (next.Action number) → slice_get (actions p) number ≡ Some s → out-Stmt s ≡ stmt.Call place (call.Print items) to → (row_at d t).used + 2 ≤ 256 → IsPrinted t (printed_line (local_of p ctx).top.locals items) d new (local_of p ctx) (local_of p now) → IsContext p now → KernelStands p new (slice_set contexts t (Some now)) (one p K Step)
+  pub stands-print : (number : ℕ) (s : Stmt) (place : Place) (items : List Item) (to : List At) (new : Decoded) (now : Ctx) → ServedLaw p → KeptLaw → IsWithinLimits p → Arrives p d contexts K t thread ctx (next.Action number) → slice_get (actions p) number ≡ Some s → out-Stmt s ≡ stmt.Call place (call.Print items) to → (row_at d t).used + 2 ≤ 256 → IsPrinted p t (printed_line (local_of p ctx).top.locals items) d new (local_of p ctx) (local_of p now) → IsContext p now → KernelStands p new (slice_set contexts t (Some now)) (one p K Step)
   stands-print number s place items to new now law kept limits a here layer room printed context =
       let sound = kept p K Step limits a.stands.image.sound a.early in
       let fits : thread.debt + 2 ≤ 256 = omega (arith, room, used-is (next.Action number) a) in
@@ -111,7 +111,7 @@ module _ (p : Program) (d : Decoded) (contexts : List (Option Ctx)) (K : State) 
 
 -- the words that a print needs
 pub print-needs : (p : Program) (t : ℕ) (thread : Thread) (s : Stmt) (place : Place) (items : List Item) (to : List At) → out-Stmt s ≡ stmt.Call place (call.Print items) to → wanted p t thread s ≡ thread.debt + 2
-print-needs p t thread s place items to layer = ap (λ n. thread.debt + n) (ap (needed_by t (ahead p thread.local).local.top.locals) layer)
+print-needs p t thread s place items to layer = ap (λ n. thread.debt + n) (ap (needed_by p t (ahead p thread.local).local.top.locals) layer)
 
 -- a thread makes no more moves than the bound
 stopped-moves : (s : LocalState) (o : Option LocalState) → (stops s o).moves ≤ 0

@@ -32,10 +32,10 @@ use Rattle.kernel_model.specs.Transactions.BlockEnd.{Gave, Aborted, Fault}
 use Rattle.kernel_model.specs.Visible.{Object}
 use Rattle.kernel_image.specs.Decoded.{Decoded, image_in, row_at, with_row, listed}
 use Rattle.kernel_image.specs.Shown.{byte_of, objects_in}
-use Rattle.persistent_objects.specs.Holes.{AreHoles, KeepsHoles}
+use Rattle.persistent_objects.specs.Layout.{IsLaidOut, KeepsLayout}
 use Rattle.persistent_objects.specs.Objects.{objects_of}
 use Rattle.replay_list.specs.Stands.{KernelStands, console_in}
-use Rattle.small_actions.specs.Small.{block_gives}
+use Rattle.thread_check.specs.Gives.{block_gives}
 use Rattle.user_transactions.specs.declared.tx_end.TxEnd.TheVariants as tx_end
 use Rattle.user_transactions.specs.Works.{IsEnd}
 use Rattle.kernel_events.specs.Actions.{IsServed}
@@ -48,7 +48,7 @@ use Rattle.kernel_events.proofs.ArriveLaws.{KeptLaw, action-here, used-is, stand
 use Rattle.kernel_events.proofs.BlockLaws.{step-block, stands-results, block-needs}
 use Rattle.kernel_events.proofs.SetLaws.{set-again}
 use Rattle.kernel_events.proofs.EndLaws.{image_outside, fell-then, least-behind, short-fell, committed-then, lost-then}
-use Rattle.kernel_events.proofs.GivenLaws.{BlockLaw, StatementLaw, gives-many}
+use Rattle.kernel_events.proofs.GivenLaws.{gives-many}
 
 -- the first three of at most three are all
 all-of : {X : Type 0} (n : ℕ) (xs : List X) → length xs ≤ n → take n xs ≡ xs
@@ -97,47 +97,47 @@ module _ (p : Program) (d : Decoded) (contexts : List (Option Ctx)) (K : State) 
       ∙ ap (λ (local : LocalState). block p (objects_of p d) local.top.locals (length to - 1) body) (sym a.arrived)
 
   -- results that were recorded over these objects
-  stands-recorded : (new : Decoded) (heap given : List ℕ) (objects : List Object) (end : BlockEnd) (after : List (Option Ctx)) → ServedLaw p → KeptLaw → IsWithinLimits p → Arrives p d contexts K t thread ctx (next.Action number) → slice_get (actions p) number ≡ Some s → out-Stmt s ≡ Atomic place to body → length given ≡ 1 + (length to - 1) → one p K Step ≡ settle t (Serves given) (record (run_ahead p K t thread) { console = K.console; objects = objects }) → IsRecordedEvent t (16 + 256 * (length to - 1)) given (record d { heap = heap }) new → objects_in p heap d.live ≡ objects → AreHoles heap d.first_hole first_place objects → IsBound p t given ctx contexts after → KernelStands p new after (one p K Step)
-  stands-recorded new heap given objects end after law kept limits a here layer many stepped recorded are holes bound =
+  stands-recorded : (new : Decoded) (heap given : List ℕ) (objects : List Object) (end : BlockEnd) (after : List (Option Ctx)) → ServedLaw p → KeptLaw → IsWithinLimits p → Arrives p d contexts K t thread ctx (next.Action number) → slice_get (actions p) number ≡ Some s → out-Stmt s ≡ Atomic place to body → length given ≡ 1 + (length to - 1) → one p K Step ≡ settle p t (Serves given) (record (run_ahead p K t thread) { console = K.console; objects = objects }) → IsRecordedEvent t (16 + 256 * (length to - 1)) given (record d { heap = heap }) new → objects_in p heap d.live ≡ objects → IsLaidOut heap d.first_hole first_place objects → IsBound p t given ctx contexts after → KernelStands p new after (one p K Step)
+  stands-recorded new heap given objects end after law kept limits a here layer many stepped recorded are layout bound =
       let sound = kept p K Step limits a.stands.image.sound a.early in
       let served = served-heap t (16 + 256 * (length to - 1)) given heap d new recorded.served in
       let live : new.live ≡ d.live = ap (λ (x : Decoded). x.live) served.rest in
       let first : new.first_hole ≡ d.first_hole = ap (λ (x : Decoded). x.first_hole) served.rest in
       let on : console_in new ≡ K.console = ap (λ n. listed n (byte_of new.console)) recorded.length_same ∙ ap (λ console. listed d.console_length (byte_of console)) recorded.console ∙ a.stands.image.console in
       let there : objects_in p new.heap new.live ≡ objects = ap (λ heap. objects_in p heap new.live) recorded.heap ∙ ap (objects_in p heap) live ∙ are in
-      let between : AreHoles new.heap new.first_hole first_place objects = subst (λ heap. AreHoles heap new.first_hole first_place objects) (sym recorded.heap) (subst (λ hole. AreHoles heap hole first_place objects) (sym first) holes) in
+      let between : IsLaidOut new.heap new.first_hole first_place objects = subst (λ heap. IsLaidOut heap new.first_hole first_place objects) (sym recorded.heap) (subst (λ hole. IsLaidOut heap hole first_place objects) (sym first) layout) in
       let put : after ≡ slice_set a.before t (Some bound.now) = bound.put ∙ ap (λ contexts. slice_set contexts t (Some bound.now)) a.taken ∙ set-again a.before t None (Some bound.now) in
       subst (λ contexts. KernelStands p new contexts (one p K Step)) (sym put)
       (stands-results p d a.before K t thread s place to body new ctx bound.now given objects law sound a.stands a.lives a.ready (action-here p d contexts K t thread ctx number s a here) layer many stepped served on there between a.arrived bound.bound bound.context)
 
   -- the step that performs the block
-  stepped-by : (end : BlockEnd) → Arrives p d contexts K t thread ctx (next.Action number) → slice_get (actions p) number ≡ Some s → out-Stmt s ≡ Atomic place to body → (row_at d t).used + 2 + (length to - 1) ≤ 256 → performed_end ≡ end → one p K Step ≡ settled t (effect_of_end (run_ahead p K t thread) (length to - 1) end)
+  stepped-by : (end : BlockEnd) → Arrives p d contexts K t thread ctx (next.Action number) → slice_get (actions p) number ≡ Some s → out-Stmt s ≡ Atomic place to body → (row_at d t).used + 2 + (length to - 1) ≤ 256 → performed_end ≡ end → one p K Step ≡ settled p t (effect_of_end (run_ahead p K t thread) (length to - 1) end)
   stepped-by end a here layer room is =
       step-block p d a.before K t thread s place to body end a.chosen a.lives (action-here p d contexts K t thread ctx number s a here) layer (omega (arith, room, used-is p d contexts K t thread ctx (next.Action number) a)) (same-end a ∙ is)
 
-  gave-by : (values : ArrayVec ℕ) (now new : Decoded) (after : List (Option Ctx)) (end : BlockEnd) → BlockLaw → StatementLaw → ServedLaw p → KeptLaw → IsWithinLimits p → Arrives p d contexts K t thread ctx (next.Action number) → slice_get (actions p) number ≡ Some s → out-Stmt s ≡ Atomic place to body → (row_at d t).used + 2 + (length to - 1) ≤ 256 → length to - 1 ≤ 3 → block_gives (length to - 1) body ≡ true → performed_end ≡ end → IsEnd p (tx_end.Gave values) now end → now ≡ record d { heap = now.heap } → KeepsHoles p d now → IsRecordedEvent t (16 + 256 * (length to - 1)) (1 ∷ values.items) now new → IsBound p t (1 ∷ values.items) ctx contexts after → KernelStands p new after (one p K Step)
-  gave-by values now new after (Gave objects given) of_block of_statement law kept limits a here layer room few gives is ended frame keeps recorded bound =
-      let many : length given ≡ length to - 1 = gives-many of_block of_statement p (objects_of p d) (local_of p ctx).top.locals (length to - 1) body gives objects given is in
+  gave-by : (values : ArrayVec ℕ) (now new : Decoded) (after : List (Option Ctx)) (end : BlockEnd) → ServedLaw p → KeptLaw → IsWithinLimits p → Arrives p d contexts K t thread ctx (next.Action number) → slice_get (actions p) number ≡ Some s → out-Stmt s ≡ Atomic place to body → (row_at d t).used + 2 + (length to - 1) ≤ 256 → length to - 1 ≤ 3 → block_gives (length to - 1) body ≡ true → performed_end ≡ end → IsEnd p (tx_end.Gave values) now end → now ≡ record d { heap = now.heap } → KeepsLayout p d now → IsRecordedEvent t (16 + 256 * (length to - 1)) (1 ∷ values.items) now new → IsBound p t (1 ∷ values.items) ctx contexts after → KernelStands p new after (one p K Step)
+  gave-by values now new after (Gave objects given) law kept limits a here layer room few gives is ended frame keeps recorded bound =
+      let many : length given ≡ length to - 1 = gives-many p (objects_of p d) (local_of p ctx).top.locals (length to - 1) body gives objects given is in
       let same : values.items ≡ given = ended.1 ∙ all-of 3 given (omega (arith, many, few)) in
       let stepped = stepped-by (Gave objects given) a here layer room is in
       let recorded_now : IsRecordedEvent t (16 + 256 * (length to - 1)) (1 ∷ given) (record d { heap = now.heap }) new = subst (λ (x : Decoded). IsRecordedEvent t (16 + 256 * (length to - 1)) (1 ∷ given) x new) frame (subst (λ results. IsRecordedEvent t (16 + 256 * (length to - 1)) (1 ∷ results) now new) same recorded) in
       let live : now.live ≡ d.live = ap (λ (x : Decoded). x.live) frame in
       let are : objects_in p now.heap d.live ≡ objects = ap (objects_in p now.heap) (sym live) ∙ sym ended.0 in
-      let before : AreHoles d.heap d.first_hole first_place (objects_of p d) = subst (AreHoles d.heap d.first_hole first_place) (sym a.stands.image.objects) a.stands.image.holes in
-      let holes : AreHoles now.heap d.first_hole first_place objects = subst (AreHoles now.heap d.first_hole first_place) (sym ended.0) (keeps d.first_hole before) in
-      stands-recorded new now.heap (1 ∷ given) objects (Gave objects given) after law kept limits a here layer (ap suc many ∙ omega arith) stepped recorded_now are holes (subst (λ results. IsBound p t (1 ∷ results) ctx contexts after) same bound)
-  gave-by values now new after Aborted of_block of_statement law kept limits a here layer room few gives is ended frame keeps recorded bound = absurd ended
-  gave-by values now new after (Fault code) of_block of_statement law kept limits a here layer room few gives is ended frame keeps recorded bound = absurd ended
+      let before : IsLaidOut d.heap d.first_hole first_place (objects_of p d) = subst (IsLaidOut d.heap d.first_hole first_place) (sym a.stands.image.objects) a.stands.image.layout in
+      let layout : IsLaidOut now.heap d.first_hole first_place objects = subst (IsLaidOut now.heap d.first_hole first_place) (sym ended.0) (keeps d.first_hole before) in
+      stands-recorded new now.heap (1 ∷ given) objects (Gave objects given) after law kept limits a here layer (ap suc many ∙ omega arith) stepped recorded_now are layout (subst (λ results. IsBound p t (1 ∷ results) ctx contexts after) same bound)
+  gave-by values now new after Aborted law kept limits a here layer room few gives is ended frame keeps recorded bound = absurd ended
+  gave-by values now new after (Fault code) law kept limits a here layer room few gives is ended frame keeps recorded bound = absurd ended
 
   -- a block that gave
-  pub stands-gave : (values : ArrayVec ℕ) (now new : Decoded) (after : List (Option Ctx)) → BlockLaw → StatementLaw → ServedLaw p → KeptLaw → IsWithinLimits p → Arrives p d contexts K t thread ctx (next.Action number) → slice_get (actions p) number ≡ Some s → out-Stmt s ≡ Atomic place to body → (row_at d t).used + 2 + (length to - 1) ≤ 256 → length to - 1 ≤ 3 → block_gives (length to - 1) body ≡ true → IsEnd p (tx_end.Gave values) now performed_end → now ≡ record d { heap = now.heap } → KeepsHoles p d now → IsRecordedEvent t (16 + 256 * (length to - 1)) (1 ∷ values.items) now new → IsBound p t (1 ∷ values.items) ctx contexts after → KernelStands p new after (one p K Step)
-  stands-gave values now new after of_block of_statement law kept limits a here layer room few gives ended frame keeps recorded bound =
-      gave-by values now new after performed_end of_block of_statement law kept limits a here layer room few gives refl ended frame keeps recorded bound
+  pub stands-gave : (values : ArrayVec ℕ) (now new : Decoded) (after : List (Option Ctx)) → ServedLaw p → KeptLaw → IsWithinLimits p → Arrives p d contexts K t thread ctx (next.Action number) → slice_get (actions p) number ≡ Some s → out-Stmt s ≡ Atomic place to body → (row_at d t).used + 2 + (length to - 1) ≤ 256 → length to - 1 ≤ 3 → block_gives (length to - 1) body ≡ true → IsEnd p (tx_end.Gave values) now performed_end → now ≡ record d { heap = now.heap } → KeepsLayout p d now → IsRecordedEvent t (16 + 256 * (length to - 1)) (1 ∷ values.items) now new → IsBound p t (1 ∷ values.items) ctx contexts after → KernelStands p new after (one p K Step)
+  stands-gave values now new after law kept limits a here layer room few gives ended frame keeps recorded bound =
+      gave-by values now new after performed_end law kept limits a here layer room few gives refl ended frame keeps recorded bound
 
   aborted-by : (now new : Decoded) (after : List (Option Ctx)) (end : BlockEnd) → ServedLaw p → KeptLaw → IsWithinLimits p → Arrives p d contexts K t thread ctx (next.Action number) → slice_get (actions p) number ≡ Some s → out-Stmt s ≡ Atomic place to body → (row_at d t).used + 2 + (length to - 1) ≤ 256 → performed_end ≡ end → IsEnd p tx_end.Aborted now end → IsRecordedEvent t (16 + 256 * (length to - 1)) (replicate (length to - 1 + 1) 0) d new → IsBound p t (replicate (length to - 1 + 1) 0) ctx contexts after → KernelStands p new after (one p K Step)
   aborted-by now new after (Gave objects given) law kept limits a here layer room is ended recorded bound = absurd ended
   aborted-by now new after Aborted law kept limits a here layer room is ended recorded bound =
-      stands-recorded new d.heap (replicate (length to - 1 + 1) 0) K.objects Aborted after law kept limits a here layer (length-replicate (length to - 1 + 1) 0 ∙ omega arith) (stepped-by Aborted a here layer room is) recorded a.stands.image.objects a.stands.image.holes bound
+      stands-recorded new d.heap (replicate (length to - 1 + 1) 0) K.objects Aborted after law kept limits a here layer (length-replicate (length to - 1 + 1) 0 ∙ omega arith) (stepped-by Aborted a here layer room is) recorded a.stands.image.objects a.stands.image.layout bound
   aborted-by now new after (Fault code) law kept limits a here layer room is ended recorded bound = absurd ended
 
   -- a block that aborted
@@ -149,23 +149,23 @@ module _ (p : Program) (d : Decoded) (contexts : List (Option Ctx)) (K : State) 
   faulted-by code now new Aborted kept limits a here layer room is ended same = absurd ended
   faulted-by code now new (Fault cause) kept limits a here layer room is ended same =
       let sound = kept p K Step limits a.stands.image.sound a.early in
-      let stepped : one p K Step ≡ settle t (Stops code) (run_ahead p K t thread) = stepped-by (Fault cause) a here layer room is ∙ ap (λ cause. settle t (Stops cause) (run_ahead p K t thread)) (sym ended) in
+      let stepped : one p K Step ≡ settle p t (Stops code) (run_ahead p K t thread) = stepped-by (Fault cause) a here layer room is ∙ ap (λ cause. settle p t (Stops cause) (run_ahead p K t thread)) (sym ended) in
       subst (λ contexts. KernelStands p new contexts (one p K Step)) (sym a.taken) (stands-stopped p d new a.before K t thread ctx ctx code sound a.stands a.lives stepped same)
 
   -- a block that faulted
   pub stands-faulted : (code : ℕ) (now new : Decoded) → KeptLaw → IsWithinLimits p → Arrives p d contexts K t thread ctx (next.Action number) → slice_get (actions p) number ≡ Some s → out-Stmt s ≡ Atomic place to body → (row_at d t).used + 2 + (length to - 1) ≤ 256 → IsEnd p (tx_end.Fault code) now performed_end → new ≡ with_row (record d { events = d.events + 1 }) t (record (row_at d t) { state = 4; code = code }) → KernelStands p new contexts (one p K Step)
   stands-faulted code now new kept limits a here layer room ended same = faulted-by code now new performed_end kept limits a here layer room refl ended same
 
-  many-by : (values : ArrayVec ℕ) (now : Decoded) (end : BlockEnd) → BlockLaw → StatementLaw → length to - 1 ≤ 3 → block_gives (length to - 1) body ≡ true → performed_end ≡ end → IsEnd p (tx_end.Gave values) now end → length values.items ≡ length to - 1
-  many-by values now (Gave objects given) of_block of_statement few gives is ended =
-      let many : length given ≡ length to - 1 = gives-many of_block of_statement p (objects_of p d) (local_of p ctx).top.locals (length to - 1) body gives objects given is in
+  many-by : (values : ArrayVec ℕ) (now : Decoded) (end : BlockEnd) → length to - 1 ≤ 3 → block_gives (length to - 1) body ≡ true → performed_end ≡ end → IsEnd p (tx_end.Gave values) now end → length values.items ≡ length to - 1
+  many-by values now (Gave objects given) few gives is ended =
+      let many : length given ≡ length to - 1 = gives-many p (objects_of p d) (local_of p ctx).top.locals (length to - 1) body gives objects given is in
       ap length (ended.1 ∙ all-of 3 given (omega (arith, many, few))) ∙ many
-  many-by values now Aborted of_block of_statement few gives is ended = absurd ended
-  many-by values now (Fault code) of_block of_statement few gives is ended = absurd ended
+  many-by values now Aborted few gives is ended = absurd ended
+  many-by values now (Fault code) few gives is ended = absurd ended
 
   -- a block that gave has as many values as it gives
-  pub gave-many : (values : ArrayVec ℕ) (now : Decoded) → BlockLaw → StatementLaw → length to - 1 ≤ 3 → block_gives (length to - 1) body ≡ true → IsEnd p (tx_end.Gave values) now performed_end → length values.items ≡ length to - 1
-  gave-many values now of_block of_statement few gives ended = many-by values now performed_end of_block of_statement few gives refl ended
+  pub gave-many : (values : ArrayVec ℕ) (now : Decoded) → length to - 1 ≤ 3 → block_gives (length to - 1) body ≡ true → IsEnd p (tx_end.Gave values) now performed_end → length values.items ≡ length to - 1
+  gave-many values now few gives ended = many-by values now performed_end few gives refl ended
 
   -- the records have no room for the block
   pub stands-no_room : (new : Decoded) → KeptLaw → IsWithinLimits p → Arrives p d contexts K t thread ctx (next.Action number) → slice_get (actions p) number ≡ Some s → out-Stmt s ≡ Atomic place to body → 256 < (row_at d t).used + 2 + (length to - 1) → new ≡ with_row (record d { events = d.events + 1 }) t (record (row_at d t) { state = 4; code = 4 }) → KernelStands p new contexts (one p K Step)

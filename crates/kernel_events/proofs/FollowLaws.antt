@@ -16,7 +16,9 @@ use Rattle.kernel_model.specs.Run.{arrived, counted}
 use Rattle.kernel_image.specs.Agree.{Both}
 use Rattle.kernel_image.specs.Decoded.{Decoded, QueueWords, SemaphoreWords, row_at, with_row as with_row_words, blank_queue, blank_semaphore}
 use Rattle.kernel_image.specs.Shown.{items_of, objects_in}
-use Rattle.persistent_objects.specs.Holes.{AreHoles}
+use Rattle.kernel_image.specs.Unread.{links_of, unread}
+use Rattle.kernel_image.proofs.Callers.{unread-row}
+use Rattle.persistent_objects.specs.Layout.{IsLaidOut}
 use Rattle.replay_list.specs.Stands.{IsRow, HasContext, KernelStands, items_in, counts_in, console_in}
 use Rattle.kernel_events.specs.Follows.{Follows}
 use Rattle.replay_list.proofs.Callers.{both_set}
@@ -28,9 +30,9 @@ abbrev pub IsCounted : ℕ → Decoded → Decoded → Type 0
 IsCounted t d new = record new { console_length = d.console_length; console = d.console; heap = d.heap } ≡ record (with_row_words d t (row_at new t)) { events = d.events + 1 }
 
 module _ (p : Program) (d new : Decoded) (contexts : List (Option Ctx)) (K : State) (t : ℕ) where
-  -- the row of a thread, its context, the console and the objects may have changed
-  pub follows-row : (row : kernel.Row) (ctx : Option Ctx) (console : List ℕ) (objects : List Object) → KernelStands p d contexts K → IsCounted t d new → IsRow p (row_at new t) row → HasContext p ctx row → console_in new ≡ console → objects_in p new.heap new.live ≡ objects → AreHoles new.heap new.first_hole first_place objects → Follows p new (slice_set contexts t ctx) (record (counted K) { rows = slice_set K.rows t row; console = console; objects = objects })
-  follows-row row ctx console objects stands rest is_row has_context on objects_are holes = record {
+  -- the row of a thread but for its links, its context, the console and the objects may have changed
+  pub follows-row : (row : kernel.Row) (ctx : Option Ctx) (console : List ℕ) (objects : List Object) → KernelStands p d contexts K → IsCounted t d new → IsRow p (row_at new t) row → links_of (row_at new t) ≡ links_of (row_at d t) → HasContext p ctx row → console_in new ≡ console → objects_in p new.heap new.live ≡ objects → IsLaidOut new.heap new.first_hole first_place objects → Follows p new (slice_set contexts t ctx) (record (counted K) { rows = slice_set K.rows t row; console = console; objects = objects })
+  follows-row row ctx console objects stands rest is_row links has_context on objects_are layout = record {
     events = ap (λ (x : Decoded). x.events) rest ∙ ap (λ n. n + 1) stands.image.events;
     ticks = ap (λ (x : Decoded). x.ticks) rest ∙ stands.image.ticks;
     rows = subst (λ rows. Both (IsRow p) rows (slice_set K.rows t row)) (sym (ap (λ (x : Decoded). x.rows) rest)) (both_set (IsRow p) d.rows K.rows t (row_at new t) row stands.image.rows is_row);
@@ -38,7 +40,8 @@ module _ (p : Program) (d new : Decoded) (contexts : List (Option Ctx)) (K : Sta
     counts = ap (λ (semaphores : List SemaphoreWords). map (λ semaphore. (slice_index_or semaphores semaphore.0 blank_semaphore).count) (enumerate_from 0 p.semaphores)) (ap (λ (x : Decoded). x.semaphores) rest) ∙ stands.image.counts;
     console = on;
     objects = objects_are;
-    holes = holes;
+    layout = layout;
+    unread = ap unread rest ∙ unread-row d t (row_at new t) links ∙ stands.image.unread;
     stamp = ap (λ (x : Decoded). x.stamp) rest ∙ stands.image.stamp;
     few_stamps = omega (arith, stands.image.few_stamps);
     restored = both_set (HasContext p) contexts K.rows t ctx row stands.restored has_context;
@@ -54,7 +57,8 @@ module _ (p : Program) (d new : Decoded) (contexts : List (Option Ctx)) (K : Sta
     counts = ap (counts_in p) same ∙ stands.image.counts;
     console = ap console_in same ∙ stands.image.console;
     objects = ap (λ (x : Decoded). objects_in p x.heap x.live) same ∙ stands.image.objects;
-    holes = subst (λ (x : Decoded). AreHoles x.heap x.first_hole first_place K.objects) (sym same) stands.image.holes;
+    layout = subst (λ (x : Decoded). IsLaidOut x.heap x.first_hole first_place K.objects) (sym same) stands.image.layout;
+    unread = ap unread same ∙ stands.image.unread;
     stamp = ap (λ (x : Decoded). x.stamp) same ∙ stands.image.stamp;
     few_stamps = omega (arith, stands.image.few_stamps);
     restored = stands.restored;
@@ -80,19 +84,19 @@ pub run_ahead-is : (p : Program) (K : State) (t : ℕ) (thread : Thread) → thr
 run_ahead-is p K t thread lives = ap (λ row. record (counted K) { rows = slice_set K.rows t (row_with (arrived (ahead p thread.local)) row) }) (thread-row K t thread lives).0
 
 -- the kernel where a thread was served, with other bytes on the console and other objects
-pub served-is : (p : Program) (K : State) (t : ℕ) (thread : Thread) (results : List ℕ) (console : List ℕ) (objects : List Object) → thread_of K t ≡ Some thread → settle t (Serves results) (record (run_ahead p K t thread) { console = console; objects = objects }) ≡ record (counted K) { rows = slice_set K.rows t (Live (served results (arrived (ahead p thread.local) thread))); console = console; objects = objects }
+pub served-is : (p : Program) (K : State) (t : ℕ) (thread : Thread) (results : List ℕ) (console : List ℕ) (objects : List Object) → thread_of K t ≡ Some thread → settle p t (Serves results) (record (run_ahead p K t thread) { console = console; objects = objects }) ≡ record (counted K) { rows = slice_set K.rows t (Live (served p results (arrived (ahead p thread.local) thread))); console = console; objects = objects }
 served-is p K t thread results console objects lives =
     let now = arrived (ahead p thread.local) thread in
     let at = set-at K.rows t (Live now) Free (thread-row K t thread lives).1 in
-    ap (λ (K0 : State). settle t (Serves results) (record K0 { console = console; objects = objects })) (run_ahead-is p K t thread lives)
+    ap (λ (K0 : State). settle p t (Serves results) (record K0 { console = console; objects = objects })) (run_ahead-is p K t thread lives)
     ∙ ap (λ rows. record (counted K) { rows = rows; console = console; objects = objects })
-    (ap (λ row. slice_set (slice_set K.rows t (Live now)) t (row_with (served results) row)) at ∙ set-again K.rows t (Live now) (Live (served results now)))
+    (ap (λ row. slice_set (slice_set K.rows t (Live now)) t (row_with (served p results) row)) at ∙ set-again K.rows t (Live now) (Live (served p results now)))
 
 -- the kernel where a thread ended
-pub stopped-is : (p : Program) (K : State) (t : ℕ) (thread : Thread) (code : ℕ) → thread_of K t ≡ Some thread → settle t (Stops code) (run_ahead p K t thread) ≡ record (counted K) { rows = slice_set K.rows t (Ended thread.template thread.priority code) }
+pub stopped-is : (p : Program) (K : State) (t : ℕ) (thread : Thread) (code : ℕ) → thread_of K t ≡ Some thread → settle p t (Stops code) (run_ahead p K t thread) ≡ record (counted K) { rows = slice_set K.rows t (Ended thread.template thread.priority code) }
 stopped-is p K t thread code lives =
     let now = arrived (ahead p thread.local) thread in
     let at = set-at K.rows t (Live now) Free (thread-row K t thread lives).1 in
-    ap (λ (K0 : State). settle t (Stops code) K0) (run_ahead-is p K t thread lives)
+    ap (λ (K0 : State). settle p t (Stops code) K0) (run_ahead-is p K t thread lives)
     ∙ ap (λ rows. record (counted K) { rows = rows })
     (ap (λ row. slice_set (slice_set K.rows t (Live now)) t (stopped code row)) at ∙ set-again K.rows t (Live now) (Ended thread.template thread.priority code))

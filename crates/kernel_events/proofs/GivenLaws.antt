@@ -11,20 +11,14 @@ use Rattle.thread_tree.specs.declared.transaction.TStmt.TheOpen.{TStmt-F}
 use Rattle.thread_tree.specs.declared.transaction.TStmt.TheOpen as tstmt
 use Rattle.thread_tree.specs.LocalState.{chosen_by}
 use Rattle.thread_tree.specs.Program.{Program}
-use Rattle.kernel_model.specs.Numbers.{kind_number}
+use Rattle.thread_tree.specs.Numbers.{kind_number}
 use Rattle.kernel_model.specs.Objects.{place_for, with_new, object_at, object_of, is_made, without, with_field}
 use Rattle.kernel_model.specs.Transactions.{Read, read, read_all, reference_of, counted, most_operations, most_block_moves, too_many_operations, bad_reference, with_read, Thing, Work, things, with_expr, with_made, operated, stored, freed, branched, tested, broken, declared_local, assigned, entered, going_on, moved_by, moved, move, BlockEnd, gives, ended_by, ending, stops, goes_on, block_by, block}
 use Rattle.kernel_model.specs.Transactions.Thing.{Do, End, Test}
 use Rattle.kernel_model.specs.Transactions.BlockEnd.{Gave, Aborted, Fault}
 use Rattle.kernel_model.specs.Visible.{Object}
-use Rattle.small_actions.specs.Small.{all_hold, holds_if_some, block_gives, statement_gives, block_parts_give, statement_parts_give}
-
--- the laws of small_actions that open a block and a statement by their parts
-abbrev pub BlockLaw : Type 0
-BlockLaw = (given : ℕ) (body : TBlock) → block_gives given body ≡ block_parts_give given (out-TBlock body)
-
-abbrev pub StatementLaw : Type 0
-StatementLaw = (given : ℕ) (s : TStmt) → statement_gives given s ≡ statement_parts_give given (out-TStmt s)
+use Rattle.thread_check.specs.Gives.{all_hold, holds_if_some, block_gives, statement_gives, statement_parts_give}
+use Rattle.thread_check.proofs.Callers.{block_gives_out, statement_gives_out}
 
 module _ (p : Program) (given : ℕ) where
   -- a thing to do that gives so many values wherever it gives
@@ -105,89 +99,88 @@ module _ (p : Program) (given : ℕ) where
       let parts = and_parts (statement_gives given s) (all_hold (map (statement_gives given) ss)) h in
       (parts.0, statements-good ss rest parts.1 all)
 
-  module _ (block_law : BlockLaw) (statement_law : StatementLaw) where
-    -- a block, and what follows it
-    things-good : (block : TBlock) (rest : List Thing) → block_gives given block ≡ true → AllGive rest → AllGive (things block ++ rest)
-    things-good block rest h all = statements-good (out-TBlock block).stmts rest (sym (block_law given block) ∙ h) all
+  -- a block, and what follows it
+  things-good : (block : TBlock) (rest : List Thing) → block_gives given block ≡ true → AllGive rest → AllGive (things block ++ rest)
+  things-good block rest h all = statements-good (out-TBlock block).stmts rest (sym (block_gives_out given block) ∙ h) all
 
-    entered-good : (w : Work) (block : TBlock) (rest : List Thing) → block_gives given block ≡ true → AllGive rest → AllGive (entered w block rest).todo
-    entered-good w block rest h all = things-good block (End (length w.locals) ∷ rest) h (tt, all)
+  entered-good : (w : Work) (block : TBlock) (rest : List Thing) → block_gives given block ≡ true → AllGive rest → AllGive (entered w block rest).todo
+  entered-good w block rest h all = things-good block (End (length w.locals) ∷ rest) h (tt, all)
 
-    branched-good : (block : TBlock) (other : Option TBlock) (rest : List Thing) (value : ℕ) (w : Work) → block_gives given block ≡ true → holds_if_some (block_gives given) other ≡ true → AllGive rest → AllGive (branched block other rest value w).todo
-    branched-good block None rest value w h g all = chosen-good value (entered w block rest) (going_on w rest) (entered-good w block rest h all) all
-    branched-good block (Some other) rest value w h g all = chosen-good value (entered w block rest) (entered w other rest) (entered-good w block rest h all) (entered-good w other rest g all)
+  branched-good : (block : TBlock) (other : Option TBlock) (rest : List Thing) (value : ℕ) (w : Work) → block_gives given block ≡ true → holds_if_some (block_gives given) other ≡ true → AllGive rest → AllGive (branched block other rest value w).todo
+  branched-good block None rest value w h g all = chosen-good value (entered w block rest) (going_on w rest) (entered-good w block rest h all) all
+  branched-good block (Some other) rest value w h g all = chosen-good value (entered w block rest) (entered w other rest) (entered-good w block rest h all) (entered-good w other rest g all)
 
-    tested-good : (e : Expr) (block : TBlock) (rest : List Thing) (value : ℕ) (w : Work) → block_gives given block ≡ true → AllGive rest → AllGive (tested e block rest value w).todo
-    tested-good e block rest value w h all = chosen-good value (entered w block (Test e block ∷ rest)) (going_on w rest) (entered-good w block (Test e block ∷ rest) h (h, all)) all
+  tested-good : (e : Expr) (block : TBlock) (rest : List Thing) (value : ℕ) (w : Work) → block_gives given block ≡ true → AllGive rest → AllGive (tested e block rest value w).todo
+  tested-good e block rest value w h all = chosen-good value (entered w block (Test e block ∷ rest)) (going_on w rest) (entered-good w block (Test e block ∷ rest) h (h, all)) all
 
-    moved_by-good : (w : Work) (rest : List Thing) (s : TStmt-F TStmt TBlock) → statement_parts_give given s ≡ true → AllGive rest → MatchOption (moved_by p w rest s) ⊤ IsGood
-    moved_by-good w rest (tstmt.Let at e) h all = with_expr-good w e (λ value w. Ok (declared_local at.name rest value w)) (λ value w'. all)
-    moved_by-good w rest (tstmt.LetNew at kind) h all = with_made-good w (kind_number p kind.name) (declared_local at.name rest) (λ value w'. all)
-    moved_by-good w rest (tstmt.Set at e) h all = with_expr-good w e (λ value w. Ok (assigned at.name rest value w)) (λ value w'. all)
-    moved_by-good w rest (tstmt.SetNew at kind) h all = with_made-good w (kind_number p kind.name) (assigned at.name rest) (λ value w'. all)
-    moved_by-good w rest (tstmt.Store field e) h all = with_expr-good w e (λ value w. stored p w rest field value)
-        (λ value w'. let r = reference_of p w'.locals field in
-        operated-good w' rest (is_some (object_of w'.objects r.place r.kind)) (with_field w'.objects r.place r.field value) all)
-    moved_by-good w rest (tstmt.Free e) h all = with_expr-good w e (λ value w. freed w rest value)
-        (λ value w'. operated-good w' rest (is_made (object_at w'.objects value)) (without w'.objects value) all)
-    moved_by-good w rest (tstmt.If e block other) h all =
-        let parts = and_parts (block_gives given block) (holds_if_some (block_gives given) other) h in
-        with_expr-good w e (λ value w. Ok (branched block other rest value w)) (λ value w'. branched-good block other rest value w' parts.0 parts.1 all)
-    moved_by-good w rest (tstmt.While e block) h all = with_expr-good w e (λ value w. Ok (tested e block rest value w)) (λ value w'. tested-good e block rest value w' h all)
-    moved_by-good w rest (tstmt.Break place) h all = broken-good w.locals rest all
-    moved_by-good w rest (tstmt.Abort place) h all = tt
-    moved_by-good w rest (tstmt.Give place es) h all = tt
+  moved_by-good : (w : Work) (rest : List Thing) (s : TStmt-F TStmt TBlock) → statement_parts_give given s ≡ true → AllGive rest → MatchOption (moved_by p w rest s) ⊤ IsGood
+  moved_by-good w rest (tstmt.Let at e) h all = with_expr-good w e (λ value w. Ok (declared_local at.name rest value w)) (λ value w'. all)
+  moved_by-good w rest (tstmt.LetNew at kind) h all = with_made-good w (kind_number p kind.name) (declared_local at.name rest) (λ value w'. all)
+  moved_by-good w rest (tstmt.Set at e) h all = with_expr-good w e (λ value w. Ok (assigned at.name rest value w)) (λ value w'. all)
+  moved_by-good w rest (tstmt.SetNew at kind) h all = with_made-good w (kind_number p kind.name) (assigned at.name rest) (λ value w'. all)
+  moved_by-good w rest (tstmt.Store field e) h all = with_expr-good w e (λ value w. stored p w rest field value)
+      (λ value w'. let r = reference_of p w'.locals field in
+      operated-good w' rest (is_some (object_of w'.objects r.place r.kind)) (with_field w'.objects r.place r.field value) all)
+  moved_by-good w rest (tstmt.Free e) h all = with_expr-good w e (λ value w. freed w rest value)
+      (λ value w'. operated-good w' rest (is_made (object_at w'.objects value)) (without w'.objects value) all)
+  moved_by-good w rest (tstmt.If e block other) h all =
+      let parts = and_parts (block_gives given block) (holds_if_some (block_gives given) other) h in
+      with_expr-good w e (λ value w. Ok (branched block other rest value w)) (λ value w'. branched-good block other rest value w' parts.0 parts.1 all)
+  moved_by-good w rest (tstmt.While e block) h all = with_expr-good w e (λ value w. Ok (tested e block rest value w)) (λ value w'. tested-good e block rest value w' h all)
+  moved_by-good w rest (tstmt.Break place) h all = broken-good w.locals rest all
+  moved_by-good w rest (tstmt.Abort place) h all = tt
+  moved_by-good w rest (tstmt.Give place es) h all = tt
 
-    -- a move leaves such things to do
-    moved-good : (w : Work) (todo : List Thing) → AllGive todo → MatchOption (moved p w todo) ⊤ IsGood
-    moved-good w [] h = tt
-    moved-good w (Do statement ∷ rest) h = moved_by-good w rest (out-TStmt statement) (sym (statement_law given statement) ∙ h.0) h.1
-    moved-good w (End keep ∷ rest) h = h.1
-    moved-good w (Test e block ∷ rest) h = with_expr-good w e (λ value w. Ok (tested e block rest value w)) (λ value w'. tested-good e block rest value w' h.0 h.1)
+  -- a move leaves such things to do
+  moved-good : (w : Work) (todo : List Thing) → AllGive todo → MatchOption (moved p w todo) ⊤ IsGood
+  moved-good w [] h = tt
+  moved-good w (Do statement ∷ rest) h = moved_by-good w rest (out-TStmt statement) (sym (statement_gives_out given statement) ∙ h.0) h.1
+  moved-good w (End keep ∷ rest) h = h.1
+  moved-good w (Test e block ∷ rest) h = with_expr-good w e (λ value w. Ok (tested e block rest value w)) (λ value w'. tested-good e block rest value w' h.0 h.1)
 
-    gives-good : (objects : List Object) (r : Result (List ℕ) ℕ) → HasMany given r → IsGoodEnd (gives objects r)
-    gives-good objects (Ok values) h = h
-    gives-good objects (Err fault) h = tt
+  gives-good : (objects : List Object) (r : Result (List ℕ) ℕ) → HasMany given r → IsGoodEnd (gives objects r)
+  gives-good objects (Ok values) h = h
+  gives-good objects (Err fault) h = tt
 
-    ended_by-good : (w : Work) (s : TStmt-F TStmt TBlock) → statement_parts_give given s ≡ true → IsGoodEnd (ended_by p w s)
-    ended_by-good w (tstmt.Let at e) h = tt
-    ended_by-good w (tstmt.LetNew at kind) h = tt
-    ended_by-good w (tstmt.Set at e) h = tt
-    ended_by-good w (tstmt.SetNew at kind) h = tt
-    ended_by-good w (tstmt.Store field e) h = tt
-    ended_by-good w (tstmt.Free e) h = tt
-    ended_by-good w (tstmt.If e block other) h = tt
-    ended_by-good w (tstmt.While e block) h = tt
-    ended_by-good w (tstmt.Break place) h = tt
-    ended_by-good w (tstmt.Abort place) h = tt
-    ended_by-good w (tstmt.Give place es) h = gives-good w.objects (read_all p w.objects w.locals es w.operations)
-        (subst (λ count. HasMany count (read_all p w.objects w.locals es w.operations)) (eqb-true (length es) given h) (read_all-many w.objects w.locals es w.operations))
+  ended_by-good : (w : Work) (s : TStmt-F TStmt TBlock) → statement_parts_give given s ≡ true → IsGoodEnd (ended_by p w s)
+  ended_by-good w (tstmt.Let at e) h = tt
+  ended_by-good w (tstmt.LetNew at kind) h = tt
+  ended_by-good w (tstmt.Set at e) h = tt
+  ended_by-good w (tstmt.SetNew at kind) h = tt
+  ended_by-good w (tstmt.Store field e) h = tt
+  ended_by-good w (tstmt.Free e) h = tt
+  ended_by-good w (tstmt.If e block other) h = tt
+  ended_by-good w (tstmt.While e block) h = tt
+  ended_by-good w (tstmt.Break place) h = tt
+  ended_by-good w (tstmt.Abort place) h = tt
+  ended_by-good w (tstmt.Give place es) h = gives-good w.objects (read_all p w.objects w.locals es w.operations)
+      (subst (λ count. HasMany count (read_all p w.objects w.locals es w.operations)) (eqb-true (length es) given h) (read_all-many w.objects w.locals es w.operations))
 
-    -- an end after such things
-    ending-good : (w : Work) (todo : List Thing) → AllGive todo → IsGoodEnd (ending p given w todo)
-    ending-good w [] h = length-replicate given 0
-    ending-good w (Do statement ∷ rest) h = ended_by-good w (out-TStmt statement) (sym (statement_law given statement) ∙ h.0)
-    ending-good w (End keep ∷ rest) h = tt
-    ending-good w (Test e block ∷ rest) h = tt
+  -- an end after such things
+  ending-good : (w : Work) (todo : List Thing) → AllGive todo → IsGoodEnd (ending p given w todo)
+  ending-good w [] h = length-replicate given 0
+  ending-good w (Do statement ∷ rest) h = ended_by-good w (out-TStmt statement) (sym (statement_gives_out given statement) ∙ h.0)
+  ending-good w (End keep ∷ rest) h = tt
+  ending-good w (Test e block ∷ rest) h = tt
 
-    stops-good : (w : Work) (o : Option (Result Work ℕ)) → AllGive w.todo → IsGoodEnd (stops p given w o)
-    stops-good w None h = ending-good w w.todo h
-    stops-good w (Some next) h = tt
+  stops-good : (w : Work) (o : Option (Result Work ℕ)) → AllGive w.todo → IsGoodEnd (stops p given w o)
+  stops-good w None h = ending-good w w.todo h
+  stops-good w (Some next) h = tt
 
-    goes_on-good : (go : Work → BlockEnd) (w : Work) (o : Option (Result Work ℕ)) → AllGive w.todo → MatchOption o ⊤ IsGood → ((next : Work) → AllGive next.todo → IsGoodEnd (go next)) → IsGoodEnd (goes_on p given go w o)
-    goes_on-good go w None h good all = ending-good w w.todo h
-    goes_on-good go w (Some (Ok next)) h good all = all next good
-    goes_on-good go w (Some (Err fault)) h good all = tt
+  goes_on-good : (go : Work → BlockEnd) (w : Work) (o : Option (Result Work ℕ)) → AllGive w.todo → MatchOption o ⊤ IsGood → ((next : Work) → AllGive next.todo → IsGoodEnd (go next)) → IsGoodEnd (goes_on p given go w o)
+  goes_on-good go w None h good all = ending-good w w.todo h
+  goes_on-good go w (Some (Ok next)) h good all = all next good
+  goes_on-good go w (Some (Err fault)) h good all = tt
 
-    block_by-good : (n : ℕ) (w : Work) → AllGive w.todo → IsGoodEnd (block_by p given n w)
-    unfolding block_by
-    block_by-good zero w h = stops-good w (move p w) h
-    block_by-good (suc n) w h = goes_on-good (λ next. block_by p given n next) w (move p w) h (moved-good w w.todo h) (λ next g. block_by-good n next g)
+  block_by-good : (n : ℕ) (w : Work) → AllGive w.todo → IsGoodEnd (block_by p given n w)
+  unfolding block_by
+  block_by-good zero w h = stops-good w (move p w) h
+  block_by-good (suc n) w h = goes_on-good (λ next. block_by p given n next) w (move p w) h (moved-good w w.todo h) (λ next g. block_by-good n next g)
 
-    block-good : (objects : List Object) (locals : List Local) (body : TBlock) → block_gives given body ≡ true → IsGoodEnd (block p objects locals given body)
-    block-good objects locals body h = block_by-good most_block_moves _ (subst AllGive (append-nil (things body)) (things-good body [] h tt))
+  block-good : (objects : List Object) (locals : List Local) (body : TBlock) → block_gives given body ≡ true → IsGoodEnd (block p objects locals given body)
+  block-good objects locals body h = block_by-good most_block_moves _ (subst AllGive (append-nil (things body)) (things-good body [] h tt))
 
 -- a block that gives so many values wherever it gives does give so many
-pub gives-many : BlockLaw → StatementLaw → (p : Program) (objects : List Object) (locals : List Local) (given : ℕ) (body : TBlock) → block_gives given body ≡ true → (os : List Object) (vs : List ℕ) → block p objects locals given body ≡ Gave os vs → length vs ≡ given
-gives-many block_law statement_law p objects locals given body h os vs is =
-    subst (IsGoodEnd p given) is (block-good p given block_law statement_law objects locals body h)
+pub gives-many : (p : Program) (objects : List Object) (locals : List Local) (given : ℕ) (body : TBlock) → block_gives given body ≡ true → (os : List Object) (vs : List ℕ) → block p objects locals given body ≡ Gave os vs → length vs ≡ given
+gives-many p objects locals given body h os vs is =
+    subst (IsGoodEnd p given) is (block-good p given objects locals body h)

@@ -11,8 +11,10 @@ use Rattle.thread_tree.specs.declared.block.Stmt.TheOpen as stmt
 use Rattle.thread_tree.specs.declared.place.At.{At}
 use Rattle.thread_tree.specs.declared.place.Place.{Place}
 use Rattle.thread_tree.specs.declared.transaction.TBlock.{TBlock}
+use Rattle.thread_tree.specs.Program.{Program}
 use Rattle.served_program.specs.Served.{is_served_action, is_served_call, is_served_tblock}
-use Rattle.small_actions.specs.Small.{IsSmallAction, block_gives}
+use Rattle.thread_check.specs.Fit.{IsFitLayer}
+use Rattle.thread_check.specs.Gives.{block_gives}
 use Rattle.kernel_events.specs.Actions.{printed_by, printed_items, block_names}
 
 -- a statement that prints these items
@@ -72,23 +74,23 @@ one-of (stmt.Return place value) served none names = cc
 one-of (stmt.Atomic place to block) served none names = cc
 one-of (stmt.Call place c to) served none names = one-call c served none
 
--- a small print has few items
-pub few-items : (layer : Stmt-F Stmt Block) (items : List Item) → printed_items layer ≡ Some items → IsSmallAction layer → length items ≤ 8
-few-items layer items found small =
+-- a print that fits has few items
+pub few-items : (p : Program) (layer : Stmt-F Stmt Block) (items : List Item) → printed_items layer ≡ Some items → IsFitLayer p layer → length items ≤ 8
+few-items p layer items found fit =
     let is = print-of layer items found in
-    let call : IsSmallAction (stmt.Call is.place (call.Print items) is.to) = subst (λ layer. IsSmallAction layer) is.is small in call
+    let call : IsFitLayer p (stmt.Call is.place (call.Print items) is.to) = subst (λ layer. IsFitLayer p layer) is.is fit in call.pieces.0
 
--- a small block has few names
-pub few-names : (layer : Stmt-F Stmt Block) (to : List At) → block_names layer ≡ Some to → IsSmallAction layer → length to ≤ 4
-few-names layer to found small =
+-- a block that fits has few names
+pub few-names : (p : Program) (layer : Stmt-F Stmt Block) (to : List At) → block_names layer ≡ Some to → IsFitLayer p layer → length to ≤ 4
+few-names p layer to found fit =
     let is = block-of layer to found in
-    let block : IsSmallAction (stmt.Atomic is.place to is.body) = subst (λ layer. IsSmallAction layer) is.is small in block.few
+    let block : IsFitLayer p (stmt.Atomic is.place to is.body) = subst (λ layer. IsFitLayer p layer) is.is fit in block.few
 
 -- a served block
 pub served-block : (layer : Stmt-F Stmt Block) (to : List At) (is : IsBlockOf layer to) → IsTrue (is_served_action layer) → IsTrue (is_served_tblock is.body)
 served-block layer to is served = subst (λ (layer : Stmt-F Stmt Block). IsTrue (is_served_action layer)) is.is served
 
--- a small block gives as many values as it has to
-pub small-gives : (layer : Stmt-F Stmt Block) (to : List At) (is : IsBlockOf layer to) → IsSmallAction layer → block_gives (length to - 1) is.body ≡ true
-small-gives layer to is small =
-    let block : IsSmallAction (stmt.Atomic is.place to is.body) = subst (λ layer. IsSmallAction layer) is.is small in block.gives
+-- a block that fits gives as many values as it has to
+pub fit-gives : (p : Program) (layer : Stmt-F Stmt Block) (to : List At) (is : IsBlockOf layer to) → IsFitLayer p layer → block_gives (length to - 1) is.body ≡ true
+fit-gives p layer to is fit =
+    let block : IsFitLayer p (stmt.Atomic is.place to is.body) = subst (λ layer. IsFitLayer p layer) is.is fit in block.gives

@@ -31,33 +31,33 @@ run_ahead p K t thread = changed (counted K) t (arrived (ahead p thread.local))
 -- what is performed where it arrives
 abbrev pub performed_by : Program → State → ℕ → Thread → Arrival → State
 performed_by p K t thread arrival = let a = ahead p thread.local in elim arrival [
-  | Finished ↦ settle t (Stops ordinary_end) (run_ahead p K t thread)
-  | Watchdog ↦ settle t (Stops watchdog) (run_ahead p K t thread)
+  | Finished ↦ settle p t (Stops ordinary_end) (run_ahead p K t thread)
+  | Watchdog ↦ settle p t (Stops watchdog) (run_ahead p K t thread)
   | AtAction statement ↦
-      if nat_lt record_room (thread.debt + need t a.local.top.locals statement)
-      then settle t (Stops no_record_room) (run_ahead p K t thread)
-      else settled t (effect_of p (run_ahead p K t thread) t a.local.top.locals statement)
+      if nat_lt record_room (thread.debt + need p t a.local.top.locals statement)
+      then settle p t (Stops no_record_room) (run_ahead p K t thread)
+      else settled p t (effect_of p (run_ahead p K t thread) t a.local.top.locals statement)
 ]
 
 step-performed : (p : Program) (K : State) (t : ℕ) (thread : Thread) (arrival : Arrival) → chosen K ≡ Some t → thread_of K t ≡ Some thread → (ahead p thread.local).arrival ≡ arrival → one p K Step ≡ performed_by p K t thread arrival
 step-performed p K t thread arrival some lives is = step-chosen p K t thread some lives ∙ ap (performed_by p K t thread) is
 
-pub step-finished : (p : Program) (K : State) (t : ℕ) (thread : Thread) → chosen K ≡ Some t → thread_of K t ≡ Some thread → (ahead p thread.local).arrival ≡ Finished → one p K Step ≡ settle t (Stops 0) (run_ahead p K t thread)
+pub step-finished : (p : Program) (K : State) (t : ℕ) (thread : Thread) → chosen K ≡ Some t → thread_of K t ≡ Some thread → (ahead p thread.local).arrival ≡ Finished → one p K Step ≡ settle p t (Stops 0) (run_ahead p K t thread)
 step-finished p K t thread some lives is = step-performed p K t thread Finished some lives is
 
-pub step-watchdog : (p : Program) (K : State) (t : ℕ) (thread : Thread) → chosen K ≡ Some t → thread_of K t ≡ Some thread → (ahead p thread.local).arrival ≡ Watchdog → one p K Step ≡ settle t (Stops 1) (run_ahead p K t thread)
+pub step-watchdog : (p : Program) (K : State) (t : ℕ) (thread : Thread) → chosen K ≡ Some t → thread_of K t ≡ Some thread → (ahead p thread.local).arrival ≡ Watchdog → one p K Step ≡ settle p t (Stops 1) (run_ahead p K t thread)
 step-watchdog p K t thread some lives is = step-performed p K t thread Watchdog some lives is
 
 -- the words that the records would have
 abbrev pub wanted : Program → ℕ → Thread → Stmt → ℕ
-wanted p t thread statement = thread.debt + need t (ahead p thread.local).local.top.locals statement
+wanted p t thread statement = thread.debt + need p t (ahead p thread.local).local.top.locals statement
 
-pub step-no_room : (p : Program) (K : State) (t : ℕ) (thread : Thread) (s : Stmt) → chosen K ≡ Some t → thread_of K t ≡ Some thread → (ahead p thread.local).arrival ≡ AtAction s → nat_lt record_room (wanted p t thread s) ≡ true → one p K Step ≡ settle t (Stops 4) (run_ahead p K t thread)
+pub step-no_room : (p : Program) (K : State) (t : ℕ) (thread : Thread) (s : Stmt) → chosen K ≡ Some t → thread_of K t ≡ Some thread → (ahead p thread.local).arrival ≡ AtAction s → nat_lt record_room (wanted p t thread s) ≡ true → one p K Step ≡ settle p t (Stops 4) (run_ahead p K t thread)
 step-no_room p K t thread s some lives is full =
     step-performed p K t thread (AtAction s) some lives is
-    ∙ ap (λ b. cond b (settle t (Stops no_record_room) (run_ahead p K t thread)) (settled t (effect_of p (run_ahead p K t thread) t (ahead p thread.local).local.top.locals s))) full
+    ∙ ap (λ b. cond b (settle p t (Stops no_record_room) (run_ahead p K t thread)) (settled p t (effect_of p (run_ahead p K t thread) t (ahead p thread.local).local.top.locals s))) full
 
-pub step-acted : (p : Program) (K : State) (t : ℕ) (thread : Thread) (s : Stmt) → chosen K ≡ Some t → thread_of K t ≡ Some thread → (ahead p thread.local).arrival ≡ AtAction s → nat_lt record_room (wanted p t thread s) ≡ false → one p K Step ≡ settled t (effect_of p (run_ahead p K t thread) t (ahead p thread.local).local.top.locals s)
+pub step-acted : (p : Program) (K : State) (t : ℕ) (thread : Thread) (s : Stmt) → chosen K ≡ Some t → thread_of K t ≡ Some thread → (ahead p thread.local).arrival ≡ AtAction s → nat_lt record_room (wanted p t thread s) ≡ false → one p K Step ≡ settled p t (effect_of p (run_ahead p K t thread) t (ahead p thread.local).local.top.locals s)
 step-acted p K t thread s some lives is room =
     step-performed p K t thread (AtAction s) some lives is
-    ∙ ap (λ b. cond b (settle t (Stops no_record_room) (run_ahead p K t thread)) (settled t (effect_of p (run_ahead p K t thread) t (ahead p thread.local).local.top.locals s))) room
+    ∙ ap (λ b. cond b (settle p t (Stops no_record_room) (run_ahead p K t thread)) (settled p t (effect_of p (run_ahead p K t thread) t (ahead p thread.local).local.top.locals s))) room

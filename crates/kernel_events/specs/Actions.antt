@@ -10,6 +10,7 @@ use Rattle.thread_tree.specs.declared.block.Stmt.TheOpen as stmt
 use Rattle.thread_tree.specs.declared.place.At.{At}
 use Rattle.thread_tree.specs.Kinds.{Action, operands_of_item}
 use Rattle.thread_tree.specs.LocalState.{LocalState, bind}
+use Rattle.thread_tree.specs.Program.{Program}
 use Rattle.kernel_image.specs.Decoded.{Decoded, row_at, with_row}
 use Rattle.kernel_model.specs.Calls.{console_room}
 use Rattle.replay_list.specs.Records.{IsRecorded}
@@ -72,8 +73,8 @@ ok_of true = 1
 ok_of false = 0
 
 -- a thread has printed bytes: they are on the console where they fit, the result says whether, and it was bound
-pub record IsPrinted (thread : ℕ) (bytes : List ℕ) (old new : Decoded) (before after : LocalState) : Type 0 where
+pub record IsPrinted (p : Program) (thread : ℕ) (bytes : List ℕ) (old new : Decoded) (before after : LocalState) : Type 0 where
   pub served : IsServed thread 1 (ok_of (fits_on old bytes) ∷ []) old new
   pub console : console_in new ≡ printed_on (fits_on old bytes) (console_in old) bytes
   pub heap : new.heap ≡ old.heap
-  pub bound : after ≡ bind before (ok_of (fits_on old bytes) ∷ [])
+  pub bound : after ≡ bind p before (ok_of (fits_on old bytes) ∷ [])

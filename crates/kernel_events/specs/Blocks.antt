@@ -18,6 +18,6 @@ pub record IsRecordedEvent (thread kind : ℕ) (results : List ℕ) (old new : D
 -- the results were bound, and the context is in its place again
 pub record IsBound (p : Program) (thread : ℕ) (results : List ℕ) (ctx : Ctx) (before after : List (Option Ctx)) : Type 0 where
   pub now : Ctx
-  pub bound : local_of p now ≡ bind (local_of p ctx) results
+  pub bound : local_of p now ≡ bind p (local_of p ctx) results
   pub context : IsContext p now
   pub put : after ≡ slice_set before thread (Some now)

@@ -14,7 +14,8 @@ use Rattle.kernel_model.specs.Order.{chosen}
 use Rattle.kernel_image.specs.Agree.{Both}
 use Rattle.kernel_image.specs.Decoded.{Decoded}
 use Rattle.kernel_image.specs.Shown.{objects_in}
-use Rattle.persistent_objects.specs.Holes.{AreHoles}
+use Rattle.kernel_image.specs.Unread.{IsUnread}
+use Rattle.persistent_objects.specs.Layout.{IsLaidOut}
 use Rattle.replay_list.specs.Stands.{IsRow, HasContext, KernelStands, items_in, counts_in, console_in}
 
 -- the image and the contexts have all that stands for a kernel, but for what soundness gives
@@ -26,7 +27,8 @@ pub record Follows (p : Program) (d : Decoded) (contexts : List (Option Ctx)) (K
   pub counts : counts_in p d ≡ K.counts
   pub console : console_in d ≡ K.console
   pub objects : objects_in p d.heap d.live ≡ K.objects
-  pub holes : AreHoles d.heap d.first_hole first_place K.objects
+  pub layout : IsLaidOut d.heap d.first_hole first_place K.objects
+  pub unread : IsUnread p d
   pub stamp : d.stamp ≡ K.stamp
   pub few_stamps : K.stamp ≤ 16 + 17 * K.events
   pub restored : Both (HasContext p) contexts K.rows

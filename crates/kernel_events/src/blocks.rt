@@ -12,6 +12,7 @@ ghost use Rattle.thread_tree.specs.Actions.{actions};
 ghost use Rattle.thread_tree.specs.Kinds.{result_count};
 ghost use Rattle.thread_tree.specs.LocalState.{bind, next_action};
 ghost use Rattle.thread_tree.specs.Program.{program_of};
+ghost use Rattle.thread_check.specs.Gives.{block_gives};
 ghost use Rattle.thread_machine.specs.declared.next.Next.TheVariants.{Action};
 ghost use Rattle.thread_machine.specs.Context.{local_of};
 ghost use Rattle.thread_machine.specs.Reached.{IsContext};
@@ -22,7 +23,6 @@ ghost use Rattle.kernel_model.specs.Kernel.{State, Thread};
 ghost use Rattle.kernel_model.specs.Run.{one};
 ghost use Rattle.replay_list.specs.Stands.{KernelStands};
 ghost use Rattle.served_program.specs.Served.{is_served_tblock};
-ghost use Rattle.small_actions.specs.Small.{block_gives};
 ghost use Rattle.kernel_events.specs.Blocks.{IsRecordedEvent, IsBound};
 ghost use Rattle.kernel_events.specs.Ends.{IsCommitted, IsLost};
 ghost use Rattle.kernel_events.specs.Follows.{Arrives};
@@ -35,7 +35,6 @@ use arrayvec::ArrayVec;
 use kernel_model::soundness;
 use nv_memory::{Cut, Nv};
 use replay_list::{standing_laws, words_used};
-use small_actions::small_actions;
 use thread_check::Checked;
 use thread_machine::{Contexts, Ctx};
 use thread_tree::{At, List};
@@ -93,7 +92,7 @@ fn conclude<N: Nv>(
     results: &[u32],
 ) -> Result<(), Cut>
     requires context { IsContext (program_of program.now) ctx.old }
-    requires action { IsSomeAnd (next_action (local_of (program_of program.now) ctx.old))
+    requires action { IsSomeAnd (next_action (program_of program.now) (local_of (program_of program.now) ctx.old))
         (λ action. length results.now ≡ result_count action.kind action.given) }
     requires thread { thread < 16 }
     requires few { length results.now ≤ 4 }
@@ -101,7 +100,7 @@ fn conclude<N: Nv>(
     requires fits { (row_at (image_in (N.words tx.old)) thread).used + 1 + length results.now ≤ 256 }
     requires room { 7 ≤ room_of (N.words tx.old) }
     ensures recorded { OnOk result (IsRecordedEvent thread kind_word results.now (image_in (N.words tx.old)) (image_in (N.words tx.new))) }
-    ensures bound { OnOk result (local_of (program_of program.now) ctx.new ≡ bind (local_of (program_of program.now) ctx.old) results.now) }
+    ensures bound { OnOk result (local_of (program_of program.now) ctx.new ≡ bind (program_of program.now) (local_of (program_of program.now) ctx.old) results.now) }
     ensures context { OnOk result (IsContext (program_of program.now) ctx.new) }
     ensures cut { IsErr result → IsShort (N.left tx.old) 28 }
     ensures dark { OnErr result (N.left tx.new ≡ Some 0) }
@@ -125,7 +124,7 @@ fn finish_action<N: Nv>(
     results: ArrayVec<u32, 4>,
 ) -> Result<Idle<N>, Dark<N>>
     requires context { IsContext (program_of program.now) ctx }
-    requires action { IsSomeAnd (next_action (local_of (program_of program.now) ctx))
+    requires action { IsSomeAnd (next_action (program_of program.now) (local_of (program_of program.now) ctx))
         (λ action. length results.items ≡ result_count action.kind action.given) }
     requires thread { thread < 16 }
     requires events { (image_in (N.words tx)).events + 1 < 2 ^ 32 }
@@ -187,7 +186,6 @@ fn perform_block<N: Nv>(
 {
     soundness();
     standing_laws();
-    small_actions();
     let _ = program.tree();
     let mut tx = tx;
     let mut ctx = ctx;

@@ -35,7 +35,7 @@ fn digits(value: u32) -> ArrayVec<u8, 64>
 fn item_bytes(ctx: &Ctx, program: &Checked, item: &Item, which: u32) -> ArrayVec<u8, 64>
     requires context { IsContext (program_of program.now) ctx.now }
     requires operand { (place : Place) (e : Expr) → item.now ≡ Value place e
-        → IsSomeAnd (next_action (local_of (program_of program.now) ctx.now)) (λ action. slice_get action.operands which ≡ Some e) }
+        → IsSomeAnd (next_action (program_of program.now) (local_of (program_of program.now) ctx.now)) (λ action. slice_get action.operands which ≡ Some e) }
     ensures bytes { result.items ≡ printed (local_of (program_of program.now) ctx.now).top.locals item.now }
 {
     match item {
@@ -63,7 +63,7 @@ fn operand_count(item: &Item) -> u32
 pub fn printed_line(ctx: &Ctx, program: &Checked, items: &List<Item>) -> ArrayVec<u8, LINE_ROOM>
     requires context { IsContext (program_of program.now) ctx.now }
     requires few { length items.now ≤ 8 }
-    requires action { IsSomeAnd (next_action (local_of (program_of program.now) ctx.now))
+    requires action { IsSomeAnd (next_action (program_of program.now) (local_of (program_of program.now) ctx.now))
         (λ action. action.operands ≡ flat_map operands_of_item items.now) }
     ensures line { result.items ≡ printed_line (local_of (program_of program.now) ctx.now).top.locals items.now }
     ensures short { length result.items ≤ 513 }

@@ -40,14 +40,14 @@ pub fn print<N: Nv>(
     items: &List<Item>,
 ) -> Result<(), Cut>
     requires context { IsContext (program_of program.now) ctx.old }
-    requires action { (names : List ℕ) × (next_action (local_of (program_of program.now) ctx.old) ≡ Some (print_action items.now names)) }
+    requires action { (names : List ℕ) × (next_action (program_of program.now) (local_of (program_of program.now) ctx.old) ≡ Some (print_action items.now names)) }
     requires few { length items.now ≤ 8 }
     requires thread { thread < 16 }
     requires events { (image_in (N.words tx.old)).events + 1 < 2 ^ 32 }
     requires console { (image_in (N.words tx.old)).console_length ≤ 8192 }
     requires fits { (row_at (image_in (N.words tx.old)) thread).used + 2 ≤ 256 }
     requires room { 140 ≤ room_of (N.words tx.old) }
-    ensures printed { OnOk result (IsPrinted thread
+    ensures printed { OnOk result (IsPrinted (program_of program.now) thread
         (printed_line (local_of (program_of program.now) ctx.old).top.locals items.now)
         (image_in (N.words tx.old)) (image_in (N.words tx.new))
         (local_of (program_of program.now) ctx.old) (local_of (program_of program.now) ctx.new)) }

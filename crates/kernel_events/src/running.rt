@@ -21,7 +21,6 @@ use kernel_model::{order, soundness};
 use nv_memory::Nv;
 use replay_list::standing_laws;
 use served_program::served_laws;
-use small_actions::small_actions;
 use std::sync::ledger::Ledger;
 use step_counter::Steps;
 use thread_check::Checked;
@@ -51,7 +50,6 @@ fn act<N: Nv>(
     ensures ends { MatchResult result (λ idle. IsCommitted N.Nv 5 6400 tx idle) (IsLost N.Nv 6400 tx) }
 {
     served_laws();
-    small_actions();
     let _ = program.tree();
     let statement = program.action(number);
     match printed_items(statement) {

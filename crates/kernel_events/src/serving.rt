@@ -27,14 +27,14 @@ pub fn serve<N: Nv>(
     results: &[u32],
 ) -> Result<(), Cut>
     requires context { IsContext (program_of program.now) ctx.old }
-    requires action { IsSomeAnd (next_action (local_of (program_of program.now) ctx.old))
+    requires action { IsSomeAnd (next_action (program_of program.now) (local_of (program_of program.now) ctx.old))
         (λ action. length results.now ≡ result_count action.kind action.given) }
     requires thread { thread < 16 }
     requires few { length results.now ≤ 4 }
     requires fits { (row_at (image_in (N.words tx.old)) thread).used + 1 + length results.now ≤ 256 }
     requires room { 6 ≤ room_of (N.words tx.old) }
     ensures recorded { OnOk result (IsAppended thread kind_word results.now (image_in (N.words tx.old)) (image_in (N.words tx.new))) }
-    ensures bound { OnOk result (local_of (program_of program.now) ctx.new ≡ bind (local_of (program_of program.now) ctx.old) results.now) }
+    ensures bound { OnOk result (local_of (program_of program.now) ctx.new ≡ bind (program_of program.now) (local_of (program_of program.now) ctx.old) results.now) }
     ensures context { OnOk result (IsContext (program_of program.now) ctx.new) }
     ensures cut { IsErr result → IsShort (N.left tx.old) 24 }
     ensures dark { OnErr result (N.left tx.new ≡ Some 0) }

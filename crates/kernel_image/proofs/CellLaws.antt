@@ -1,5 +1,5 @@
 -- A cell and its address.
-use Rattle.std.proofs.Common.{◌≡◌, ℕ, ◌<◌, ◌==◌, List, Bool, true, false, refl, ap, sym, subst, ◌∙◌, arith}
+use Rattle.std.proofs.Common.{◌≡◌, ℕ, ◌+◌, ◌<◌, ◌==◌, List, Bool, true, false, refl, ap, sym, subst, ◌∙◌, arith}
 use Rattle.std.proofs.Math.Path.{fun_ext}
 use Rattle.std.proofs.lemmas.Bool.Decides.{nat_tests}
 use Rattle.std.specs.Prelude.{slice_index, IsTrue}
@@ -7,15 +7,17 @@ use Rattle.std.proofs.lemmas.Bool.{false≢true}
 use Rattle.undo_journal.proofs.Callers.{outside-plain}
 use Rattle.undo_journal.specs.Undo.{outside, with_word, IsPlain}
 use Rattle.kernel_image.specs.declared.cell.Cell.{Cell}
-use Rattle.kernel_image.specs.declared.cell.Cell.TheVariants.{Header, QueueWord, QueueItem, SemaphoreWord, RowWord, StartValue, RecordWord, ConsoleWord, HeapWord, LiveWord}
+use Rattle.kernel_image.specs.declared.cell.Cell.TheVariants.{Header, SpareHeader, QueueWord, QueueItem, QueueSpare, SemaphoreWord, RowWord, StartValue, RecordWord, ConsoleWord, HeapWord, LiveWord, Spare}
 use Rattle.kernel_image.specs.Cells.{address, is_cell, cell_eq, cell_of, cells, with_cell}
 
 -- the cell at the address of a cell is that cell
 pub cell_of-address : (c : Cell) → is_cell c ≡ true → cell_of (address c) ≡ c
 unfolding cell_of
 cell_of-address (Header at) h = grind (arith, nat_tests)
+cell_of-address (SpareHeader i) h = grind (arith, nat_tests)
 cell_of-address (QueueWord queue word) h = grind (arith, nat_tests)
 cell_of-address (QueueItem queue slot) h = grind (arith, nat_tests)
+cell_of-address (QueueSpare queue i) h = grind (arith, nat_tests)
 cell_of-address (SemaphoreWord semaphore word) h = grind (arith, nat_tests)
 cell_of-address (RowWord thread word) h = grind (arith, nat_tests)
 cell_of-address (StartValue thread value) h = grind (arith, nat_tests)
@@ -23,10 +25,15 @@ cell_of-address (RecordWord thread word) h = grind (arith, nat_tests)
 cell_of-address (ConsoleWord word) h = grind (arith, nat_tests)
 cell_of-address (HeapWord place) h = grind (arith, nat_tests)
 cell_of-address (LiveWord word) h = grind (arith, nat_tests)
+cell_of-address (Spare i) h = grind (arith, nat_tests)
 
 -- a word behind the header and before the journal may be kept by the journal
 plain_between : (at : ℕ) → 63 < at → at < 11968 → IsPlain at
 plain_between at low high = record { not_magic = omega arith; within = omega arith; not_count = omega arith; not_entry = λ entry. omega arith }
+
+-- a word behind the journal may be kept too
+plain_behind : (i : ℕ) → i < 1856 → IsPlain (14528 + i)
+plain_behind i few = record { not_magic = omega arith; within = omega (arith, few); not_count = omega arith; not_entry = λ entry. omega arith }
 
 -- a word of the header, but for the journal's and word 0
 plain_header : (at : ℕ) → 0 < at → at < 64 → (at == 4) ≡ false → IsPlain at
@@ -35,8 +42,10 @@ plain_header at some low other = record { not_magic = some; within = omega arith
 -- so may each cell
 pub address-plain : (c : Cell) → IsTrue (is_cell c) → IsPlain (address c)
 address-plain (Header at) h = plain_header at (grind (arith, nat_tests)) (grind (arith, nat_tests)) (grind (arith, nat_tests))
+address-plain (SpareHeader i) h = plain_header (16 + i) (omega arith) (grind (arith, nat_tests)) (grind (arith, nat_tests))
 address-plain (QueueWord queue word) h = plain_between _ (omega arith) (grind (arith, nat_tests))
 address-plain (QueueItem queue slot) h = plain_between _ (omega arith) (grind (arith, nat_tests))
+address-plain (QueueSpare queue i) h = plain_between _ (omega arith) (grind (arith, nat_tests))
 address-plain (SemaphoreWord semaphore word) h = plain_between _ (omega arith) (grind (arith, nat_tests))
 address-plain (RowWord thread word) h = plain_between _ (omega arith) (grind (arith, nat_tests))
 address-plain (StartValue thread value) h = plain_between _ (omega arith) (grind (arith, nat_tests))
@@ -44,12 +53,15 @@ address-plain (RecordWord thread word) h = plain_between _ (omega arith) (grind 
 address-plain (ConsoleWord word) h = plain_between _ (omega arith) (grind (arith, nat_tests))
 address-plain (HeapWord place) h = plain_between _ (omega arith) (grind (arith, nat_tests))
 address-plain (LiveWord word) h = plain_between _ (omega arith) (grind (arith, nat_tests))
+address-plain (Spare i) h = plain_behind i (grind (arith, nat_tests))
 
 -- a cell is one with itself
 pub cell_eq-same : (c : Cell) → cell_eq c c ≡ true
 cell_eq-same (Header at) = grind (arith, nat_tests)
+cell_eq-same (SpareHeader i) = grind (arith, nat_tests)
 cell_eq-same (QueueWord queue word) = grind (arith, nat_tests)
 cell_eq-same (QueueItem queue slot) = grind (arith, nat_tests)
+cell_eq-same (QueueSpare queue i) = grind (arith, nat_tests)
 cell_eq-same (SemaphoreWord semaphore word) = grind (arith, nat_tests)
 cell_eq-same (RowWord thread word) = grind (arith, nat_tests)
 cell_eq-same (StartValue thread value) = grind (arith, nat_tests)
@@ -57,12 +69,15 @@ cell_eq-same (RecordWord thread word) = grind (arith, nat_tests)
 cell_eq-same (ConsoleWord word) = grind (arith, nat_tests)
 cell_eq-same (HeapWord place) = grind (arith, nat_tests)
 cell_eq-same (LiveWord word) = grind (arith, nat_tests)
+cell_eq-same (Spare i) = grind (arith, nat_tests)
 
 -- cells that are one are the same
 pub cell_eq-is : (c d : Cell) → cell_eq c d ≡ true → c ≡ d
 cell_eq-is (Header a) (Header b) h = grind (arith, nat_tests)
+cell_eq-is (SpareHeader a) (SpareHeader b) h = grind (arith, nat_tests)
 cell_eq-is (QueueWord q a) (QueueWord r b) h = grind (arith, nat_tests)
 cell_eq-is (QueueItem q a) (QueueItem r b) h = grind (arith, nat_tests)
+cell_eq-is (QueueSpare q a) (QueueSpare r b) h = grind (arith, nat_tests)
 cell_eq-is (SemaphoreWord q a) (SemaphoreWord r b) h = grind (arith, nat_tests)
 cell_eq-is (RowWord q a) (RowWord r b) h = grind (arith, nat_tests)
 cell_eq-is (StartValue q a) (StartValue r b) h = grind (arith, nat_tests)
@@ -70,6 +85,7 @@ cell_eq-is (RecordWord q a) (RecordWord r b) h = grind (arith, nat_tests)
 cell_eq-is (ConsoleWord a) (ConsoleWord b) h = grind (arith, nat_tests)
 cell_eq-is (HeapWord a) (HeapWord b) h = grind (arith, nat_tests)
 cell_eq-is (LiveWord a) (LiveWord b) h = grind (arith, nat_tests)
+cell_eq-is (Spare a) (Spare b) h = grind (arith, nat_tests)
 cell_eq-is c d h = absurd (false≢true h)
 
 -- a choice by a test, in both of its cases

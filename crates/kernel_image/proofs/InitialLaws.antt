@@ -35,7 +35,7 @@ is_some-kind (Some object) = refl
 
 -- a cell at an address has live bits of places of the heap
 queue_cell-place : (queue word : ℕ) → has_live_place (queue_cell queue word) ≡ true
-queue_cell-place queue word = by_test (nat_lt word 4) _ (λ here. rw here refl) (λ other. rw other refl)
+queue_cell-place queue word = by_test (nat_lt word 4) _ (λ here. rw here refl) (λ other. by_test (nat_lt word 52) _ (λ here. rw (other, here) refl) (λ behind. rw (other, behind) refl))
 
 row_cell-place : (thread word : ℕ) → has_live_place (row_cell thread word) ≡ true
 row_cell-place thread word = by_test (nat_lt word 16) _ (λ here. rw here refl) (λ other. by_test (nat_lt word 32) _ (λ here. rw (other, here) refl) (λ behind. rw (other, behind) refl))
@@ -43,16 +43,18 @@ row_cell-place thread word = by_test (nat_lt word 16) _ (λ here. rw here refl) 
 behind_rows-place : (at : ℕ) → has_live_place (cell_behind_rows at) ≡ true
 behind_rows-place at =
     by_test (nat_lt at 7808) _ (λ here. rw here refl) (λ n. by_test (nat_lt at 11904) _ (λ here. rw (n, here) refl) (λ m.
-    by_test (nat_lt at 11968) _ (λ here. rw (n, m, here) (grind (arith, nat_tests))) (λ k. rw (n, m, k) refl)))
+    by_test (nat_lt at 11968) _ (λ here. rw (n, m, here) (grind (arith, nat_tests))) (λ k.
+    by_test (nat_lt at 14528) _ (λ here. rw (n, m, k, here) refl) (λ j. rw (n, m, k, j) refl))))
 
 pub has_live_place-cell_of : (at : ℕ) → has_live_place (cell_of at) ≡ true
 unfolding cell_of
 has_live_place-cell_of at =
-    by_test (nat_lt at 64) _ (λ here. rw here refl) (λ a.
-    by_test (nat_lt at 1088) _ (λ here. rw (a, here) (queue_cell-place ((at - 64) / 64) ((at - 64) % 64))) (λ b.
-    by_test (nat_lt at 1152) _ (λ here. rw (a, b, here) refl) (λ c.
-    by_test (nat_lt at 5760) _ (λ here. rw (a, b, c, here) (row_cell-place ((at - 1152) / 288) ((at - 1152) % 288))) (λ d.
-    rw (a, b, c, d) (behind_rows-place at)))))
+    by_test (nat_lt at 16) _ (λ here. rw here refl) (λ z.
+    by_test (nat_lt at 64) _ (λ here. rw (z, here) refl) (λ a.
+    by_test (nat_lt at 1088) _ (λ here. rw (z, a, here) (queue_cell-place ((at - 64) / 64) ((at - 64) % 64))) (λ b.
+    by_test (nat_lt at 1152) _ (λ here. rw (z, a, b, here) refl) (λ c.
+    by_test (nat_lt at 5760) _ (λ here. rw (z, a, b, c, here) (row_cell-place ((at - 1152) / 288) ((at - 1152) % 288))) (λ d.
+    rw (z, a, b, c, d) (behind_rows-place at))))))
 
 -- bits from the k-th on
 unfoldable pub bits_from : (ℕ → Bool) → ℕ → ℕ

@@ -1,18 +1,19 @@
 -- The heap and the live bits that formatting writes show the static objects.
-use Rattle.std.proofs.Common.{◌≡◌, ℕ, zero, suc, ◌+◌, ◌-◌, ◌*◌, ◌/◌, ◌%◌, ◌<◌, ◌≤◌, ◌==◌, List, [], ◌∷◌, Bool, true, false, refl, ap, sym, ◌∙◌, arith, length, slice_index}
+use Rattle.std.proofs.Common.{◌≡◌, ℕ, zero, suc, ◌+◌, ◌-◌, ◌*◌, ◌/◌, ◌%◌, ◌<◌, ◌≤◌, ◌==◌, List, [], ◌∷◌, Bool, true, false, refl, ap, sym, subst, ◌∙◌, arith, length, slice_index}
 use Rattle.std.proofs.lemmas.Bool.Decides.{nat_tests}
 use Rattle.std.proofs.lemmas.List.{length-map}
 use Rattle.std.proofs.lemmas.Nat.Bits.{bit_at-suc}
 use Rattle.std.specs.Int.{bit_at}
 use Rattle.std.specs.Prelude.{map, filter, if◌then◌else◌, nat_le, Option, Some, None, is_some}
-use Rattle.std.specs.List.{range_with_len}
+use Rattle.std.specs.List.{range_with_len, AllByRecursion}
 use Rattle.kernel_model.specs.Visible.{Object}
-use Rattle.kernel_model.specs.Numbers.{kind_number, fields_of}
+use Rattle.thread_tree.specs.Numbers.{kind_number, fields_of}
 use Rattle.kernel_model.specs.Objects as objects
 use Rattle.kernel_model.specs.Objects.{block_size, end_of, blank_object, static_objects}
 use Rattle.thread_tree.specs.Program as program
 use Rattle.thread_tree.specs.Program.{Program, Kind}
 use Rattle.thread_tree.specs.Limits.{IsWithinLimits}
+use Rattle.kernel_image.specs.Agree.{HasHeader}
 use Rattle.kernel_image.specs.Decoded.{listed}
 use Rattle.kernel_image.specs.Shown.{is_begun, even_places, object_at, objects_in, static_mark}
 use Rattle.kernel_image.specs.Initial.{end_after, first_hole, hole_word, initial_heap_word, initial_live_word, of_bits}
@@ -180,3 +181,25 @@ initial-objects-by p n all within =
 pub initial-objects : (p : Program) → IsWithinLimits p → objects_in p (listed 4096 (initial_heap_word p)) (listed 64 (initial_live_word p)) ≡ static_objects p
 unfolding even_places
 initial-objects p within = initial-objects-by p 2048 refl within
+
+-- packed objects have their headers
+packed-headers : (p : Program) (heap : List ℕ) (place : ℕ) (names : List ℕ) → HasFewFields p → place + 12 * length names ≤ 4000 →
+    ((q : ℕ) → place ≤ q → q < 4096 → slice_index heap q ≡ word_of p (objects.object_at (packed p place names) q) q) →
+    AllByRecursion (HasHeader heap) (packed p place names)
+unfolding packed
+packed-headers p heap place [] few most words = tt
+packed-headers p heap place (name ∷ names) few most words =
+    let small = size_of-few p name few in (
+      words place (omega arith) (omega (arith, most)) ∙ ap (λ (o : Option Object). word_of p o place) (packed-here p place name names),
+      packed-headers p heap (place + size_of p name) names few (omega (arith, most, small))
+          (λ q above below. words q (omega (arith, above)) below ∙ ap (λ (o : Option Object). word_of p o q) (packed-behind p place name names q (omega (arith, above)))),
+    )
+
+-- the objects at the start have theirs
+pub initial-headers : (p : Program) → IsWithinLimits p → AllByRecursion (HasHeader (listed 4096 (initial_heap_word p))) (static_objects p)
+initial-headers p within =
+    let packing = static_objects-of p within in
+    let count : length (map (λ (o : program.Object). o.kind) p.objects) ≡ length p.objects = length-map p.objects (λ (o : program.Object). o.kind) in
+    subst (λ (os : List Object). AllByRecursion (HasHeader (listed 4096 (initial_heap_word p))) os) (sym packing)
+    (packed-headers p (listed 4096 (initial_heap_word p)) 2 (map (λ (o : program.Object). o.kind) p.objects) (HasFewFields-within p within) (omega (arith, count, within.objects))
+    (λ q low high. listed-at 4096 (initial_heap_word p) q 0 high ∙ ap (λ (os : List Object). word_of p (objects.object_at os q) q) packing))

@@ -7,7 +7,7 @@ use Rattle.std.proofs.Math.ListN.{get_or-eq_default}
 use Rattle.std.specs.Prelude.{◌%◌, map, find, replicate, if◌then◌else◌, nat_lt, slice_get, slice_index, slice_index_or, Option, Some, None, IsSome}
 use Rattle.std.specs.List.{enumerate_from, range_with_len, position_or_len}
 use Rattle.kernel_model.specs.Kernel.Row.{Free, Live}
-use Rattle.kernel_model.specs.Numbers.{template_number}
+use Rattle.thread_tree.specs.Numbers.{template_number}
 use Rattle.kernel_model.specs.Calls.{born}
 use Rattle.kernel_model.specs.Run.{start_row, start_rows}
 use Rattle.thread_tree.specs.Program as program

@@ -13,7 +13,7 @@ use Rattle.thread_tree.specs.Program as program
 use Rattle.thread_tree.specs.Program.{Program}
 use Rattle.thread_tree.specs.Limits.{IsWithinLimits}
 use Rattle.kernel_image.specs.declared.cell.Cell.{Cell}
-use Rattle.kernel_image.specs.declared.cell.Cell.TheVariants.{Header, QueueWord, QueueItem, SemaphoreWord, RowWord, StartValue, RecordWord, ConsoleWord, HeapWord, LiveWord}
+use Rattle.kernel_image.specs.declared.cell.Cell.TheVariants.{Header, SpareHeader, QueueWord, QueueItem, QueueSpare, SemaphoreWord, RowWord, StartValue, RecordWord, ConsoleWord, HeapWord, LiveWord, Spare}
 use Rattle.kernel_image.specs.Cells.{cell_of, address, is_cell, cells, present}
 use Rattle.kernel_image.specs.Decoded.{decoded_of, image_in, listed, row_of, queue_of, semaphore_of, semaphore_at}
 use Rattle.kernel_image.specs.Shown.{shown, shown_queue, shown_semaphore, byte_of}
@@ -84,13 +84,16 @@ queue-same f g agree q low =
     let a2 = agree (QueueWord q 2) (both_low q 2 16 4 low (omega arith)) in
     let a3 = agree (QueueWord q 3) (both_low q 3 16 4 low (omega arith)) in
     let slots = listed-same 48 (λ i. f (QueueItem q i)) (λ i. g (QueueItem q i)) (λ i within. agree (QueueItem q i) (both_low q i 16 48 low within)) in
-    λ i. record { count = a0 i; front = a1 i; senders_head = a2 i; receivers_head = a3 i; slots = slots i }
+    let padding = listed-same 12 (λ i. f (QueueSpare q i)) (λ i. g (QueueSpare q i)) (λ i within. agree (QueueSpare q i) (both_low q i 16 12 low within)) in
+    λ i. record { count = a0 i; front = a1 i; senders_head = a2 i; receivers_head = a3 i; slots = slots i; padding = padding i }
 
 semaphore-same : (f g : Cell → ℕ) → AgreeAtCells f g → (s : ℕ) → s < 16 → semaphore_of f s ≡ semaphore_of g s
 semaphore-same f g agree s low =
     let a0 = agree (SemaphoreWord s 0) (both_low s 0 16 4 low (omega arith)) in
     let a1 = agree (SemaphoreWord s 1) (both_low s 1 16 4 low (omega arith)) in
-    λ i. record { count = a0 i; takers_head = a1 i }
+    let a2 = agree (SemaphoreWord s 2) (both_low s 2 16 4 low (omega arith)) in
+    let a3 = agree (SemaphoreWord s 3) (both_low s 3 16 4 low (omega arith)) in
+    λ i. record { count = a0 i; takers_head = a1 i; third = a2 i; fourth = a3 i }
 
 -- hold the same image
 pub decoded_of-agree : (f g : Cell → ℕ) → AgreeAtCells f g → decoded_of f ≡ decoded_of g
@@ -116,6 +119,8 @@ decoded_of-agree f g agree =
     let console = listed-same 2048 (λ i. f (ConsoleWord i)) (λ i. g (ConsoleWord i)) (λ i within. agree (ConsoleWord i) (one_low i 2048 within)) in
     let heap = listed-same 4096 (λ i. f (HeapWord i)) (λ i. g (HeapWord i)) (λ i within. agree (HeapWord i) (one_low i 4096 within)) in
     let live = listed-same 64 (λ i. f (LiveWord i)) (λ i. g (LiveWord i)) (λ i within. agree (LiveWord i) (one_low i 64 within)) in
+    let spare_header = listed-same 48 (λ i. f (SpareHeader i)) (λ i. g (SpareHeader i)) (λ i within. agree (SpareHeader i) (one_low i 48 within)) in
+    let spare = listed-same 1856 (λ i. f (Spare i)) (λ i. g (Spare i)) (λ i within. agree (Spare i) (one_low i 1856 within)) in
     λ i. record {
       events = h1 i;
       ticks = h2 i;
@@ -130,6 +135,8 @@ decoded_of-agree f g agree =
       console = console i;
       heap = heap i;
       live = live i;
+      spare_header = spare_header i;
+      spare = spare i;
     }
 
 -- formatted words hold the initial image

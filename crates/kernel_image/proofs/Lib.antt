@@ -14,4 +14,5 @@ mod PartLaws
 mod Sorted
 mod StartLaws
 mod StoreLaws
+mod UnreadLaws
 mod Walks

@@ -6,7 +6,7 @@ use Rattle.std.specs.List.{cons_option}
 use Rattle.std.specs.Prelude.{map, fold, filter_map, nat_le, slice_get, All, Option, Some, None, IsSome, option_map}
 use Rattle.std.proofs.lemmas.List.{length-map, length-replicate, append-nil}
 use Rattle.kernel_model.specs.Visible.{Object}
-use Rattle.kernel_model.specs.Numbers.{kind_number, fields_of}
+use Rattle.thread_tree.specs.Numbers.{kind_number, fields_of}
 use Rattle.kernel_model.specs.Objects.{block_size, end_of, least_from, least, place_for, blank_object, object_at, with_static, static_objects}
 use Rattle.thread_tree.specs.declared.tree.Decl.{Decl}
 use Rattle.thread_tree.specs.declared.tree.Decl.TheVariants as decl

@@ -11,7 +11,7 @@ use Rattle.thread_tree.specs.declared.tree.Tree.{Tree}
 use Rattle.thread_tree.specs.Program.{Program, Kind, Queue, Template, program_of}
 use Rattle.thread_tree.specs.Limits.{IsWithinLimits, IsFitQueue}
 use Rattle.kernel_model.specs.Calls.{capacity_of}
-use Rattle.kernel_model.specs.Numbers.{template_number, kind_number, fields_of}
+use Rattle.thread_tree.specs.Numbers.{template_number, kind_number, fields_of}
 use Rattle.kernel_image.specs.declared.sort.Sort.TheVariants as sort
 use Rattle.kernel_image.specs.Declarations.{is_of, has_name, kind_in, template_in, queue_in, semaphore_in, capacity_in, count_in, priority_in, field_count_in}
 use Rattle.kernel_image.specs.Initial.{initial_count, priority_of}

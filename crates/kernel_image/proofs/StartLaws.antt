@@ -9,7 +9,7 @@ use Rattle.thread_tree.specs.declared.tree.Tree.{Tree}
 use Rattle.thread_tree.specs.Program.{Program, Template, Start, program_of, values_of}
 use Rattle.thread_tree.specs.Limits.{IsWithinLimits, IsFitTemplate, template_named}
 use Rattle.kernel_model.specs.declared.wait.TheConstants.{NEVER}
-use Rattle.kernel_model.specs.Numbers.{template_number}
+use Rattle.thread_tree.specs.Numbers.{template_number}
 use Rattle.kernel_image.specs.declared.sort.Sort.TheVariants as sort
 use Rattle.kernel_image.specs.Declarations.{is_of, start_in, started_in, argument_count_in, argument_in}
 use Rattle.kernel_image.specs.Initial.{priority_of, started_word, initial_row_word, initial_start_value, argument_count}

@@ -3,7 +3,7 @@ use Rattle.std.proofs.Common.{◌≡◌, ℕ, ◌<◌, ◌==◌, List, true, fal
 use Rattle.std.proofs.lemmas.Bool.Decides.{nat_tests}
 use Rattle.std.proofs.lemmas.List.{get_or-set_same, set-set}
 use Rattle.kernel_image.specs.declared.cell.Cell.{Cell}
-use Rattle.kernel_image.specs.declared.cell.Cell.TheVariants.{Header, QueueWord, QueueItem, SemaphoreWord, RowWord, StartValue, RecordWord, ConsoleWord, HeapWord, LiveWord}
+use Rattle.kernel_image.specs.declared.cell.Cell.TheVariants.{Header, SpareHeader, QueueWord, QueueItem, QueueSpare, SemaphoreWord, RowWord, StartValue, RecordWord, ConsoleWord, HeapWord, LiveWord, Spare}
 use Rattle.kernel_image.specs.Cells.{with_cell}
 use Rattle.kernel_image.specs.Decoded.{Decoded, RowWords, QueueWords, SemaphoreWords, listed, row_of, queue_of, semaphore_of, decoded_of, row_at, with_row, queue_at, with_queue, semaphore_at, with_semaphore, blank_row, blank_queue, blank_semaphore}
 use Rattle.kernel_image.proofs.Listed.{listed-set, listed-at, length-listed}
@@ -205,6 +205,14 @@ decoded_of-queue_item word q i value =
     (queues_are word (with_cell word (QueueItem q i) value) q (λ queue. record queue { slots = slice_set queue.slots i value })
     (rw (same q) (ap (λ (ws : List ℕ). record (queue_of word q) { slots = ws }) words)) (λ u other. rw other refl))
 
+pub decoded_of-queue_padding : (word : Cell → ℕ) (q i value : ℕ) → decoded_of (with_cell word (QueueSpare q i) value) ≡ with_queue (decoded_of word) q (record (queue_at (decoded_of word) q) { padding = slice_set (queue_at (decoded_of word) q).padding i value })
+unfolding decoded_of with_cell
+decoded_of-queue_padding word q i value =
+    let words = listed_words 12 (λ j. word (QueueSpare q j)) i value in
+    ap (λ (queues : List QueueWords). record (decoded_of word) { queues = queues })
+    (queues_are word (with_cell word (QueueSpare q i) value) q (λ queue. record queue { padding = slice_set queue.padding i value })
+    (rw (same q) (ap (λ (ws : List ℕ). record (queue_of word q) { padding = ws }) words)) (λ u other. rw other refl))
+
 -- words of which one semaphore has changed
 semaphores_are : (word later : Cell → ℕ) (s : ℕ) (change : SemaphoreWords → SemaphoreWords) → semaphore_of later s ≡ change (semaphore_of word s) → ((u : ℕ) → (u == s) ≡ false → semaphore_of later u ≡ semaphore_of word u) → listed 16 (semaphore_of later) ≡ slice_set (listed 16 (semaphore_of word)) s (change (semaphore_at (decoded_of word) s))
 semaphores_are word later s change here there = listed-set 16 (semaphore_of word) (semaphore_of later) s _ (λ low. here ∙ ap change (sym (semaphore_at-decoded word s low))) there
@@ -221,6 +229,18 @@ decoded_of-semaphore_takers_head word s value =
     ap (λ (semaphores : List SemaphoreWords). record (decoded_of word) { semaphores = semaphores })
     (semaphores_are word (with_cell word (SemaphoreWord s 1) value) s (λ semaphore. record semaphore { takers_head = value }) (rw (same s) refl) (λ u other. rw other refl))
 
+pub decoded_of-semaphore_third : (word : Cell → ℕ) (s value : ℕ) → decoded_of (with_cell word (SemaphoreWord s 2) value) ≡ with_semaphore (decoded_of word) s (record (semaphore_at (decoded_of word) s) { third = value })
+unfolding decoded_of with_cell
+decoded_of-semaphore_third word s value =
+    ap (λ (semaphores : List SemaphoreWords). record (decoded_of word) { semaphores = semaphores })
+    (semaphores_are word (with_cell word (SemaphoreWord s 2) value) s (λ semaphore. record semaphore { third = value }) (rw (same s) refl) (λ u other. rw other refl))
+
+pub decoded_of-semaphore_fourth : (word : Cell → ℕ) (s value : ℕ) → decoded_of (with_cell word (SemaphoreWord s 3) value) ≡ with_semaphore (decoded_of word) s (record (semaphore_at (decoded_of word) s) { fourth = value })
+unfolding decoded_of with_cell
+decoded_of-semaphore_fourth word s value =
+    ap (λ (semaphores : List SemaphoreWords). record (decoded_of word) { semaphores = semaphores })
+    (semaphores_are word (with_cell word (SemaphoreWord s 3) value) s (λ semaphore. record semaphore { fourth = value }) (rw (same s) refl) (λ u other. rw other refl))
+
 pub decoded_of-console_word : (word : Cell → ℕ) (i value : ℕ) → decoded_of (with_cell word (ConsoleWord i) value) ≡ record (decoded_of word) { console = slice_set (decoded_of word).console i value }
 unfolding decoded_of with_cell
 decoded_of-console_word word i value =
@@ -235,6 +255,16 @@ pub decoded_of-live_word : (word : Cell → ℕ) (i value : ℕ) → decoded_of 
 unfolding decoded_of with_cell
 decoded_of-live_word word i value =
     ap (λ (ws : List ℕ). record (decoded_of word) { live = ws }) (listed_words 64 (λ j. word (LiveWord j)) i value)
+
+pub decoded_of-spare_header : (word : Cell → ℕ) (i value : ℕ) → decoded_of (with_cell word (SpareHeader i) value) ≡ record (decoded_of word) { spare_header = slice_set (decoded_of word).spare_header i value }
+unfolding decoded_of with_cell
+decoded_of-spare_header word i value =
+    ap (λ (ws : List ℕ). record (decoded_of word) { spare_header = ws }) (listed_words 48 (λ j. word (SpareHeader j)) i value)
+
+pub decoded_of-spare : (word : Cell → ℕ) (i value : ℕ) → decoded_of (with_cell word (Spare i) value) ≡ record (decoded_of word) { spare = slice_set (decoded_of word).spare i value }
+unfolding decoded_of with_cell
+decoded_of-spare word i value =
+    ap (λ (ws : List ℕ). record (decoded_of word) { spare = ws }) (listed_words 1856 (λ j. word (Spare j)) i value)
 
 -- a row that was just put there, and one that is put there after another one
 length_rows : (word : Cell → ℕ) → length (decoded_of word).rows ≡ 16

@@ -2,7 +2,7 @@
 use Rattle.std.specs.Prelude.{ℕ, ◌==◌, Bool, true, false, List, [], ◌∷◌, map, slice_index_or, slice_set}
 use Rattle.std.specs.List.{range_with_len}
 use Rattle.kernel_image.specs.declared.cell.Cell.{Cell}
-use Rattle.kernel_image.specs.declared.cell.Cell.TheVariants.{Header, QueueWord, QueueItem, SemaphoreWord, RowWord, StartValue, RecordWord, ConsoleWord, HeapWord, LiveWord}
+use Rattle.kernel_image.specs.declared.cell.Cell.TheVariants.{Header, SpareHeader, QueueWord, QueueItem, QueueSpare, SemaphoreWord, RowWord, StartValue, RecordWord, ConsoleWord, HeapWord, LiveWord, Spare}
 use Rattle.kernel_image.specs.Cells.{present, saved}
 
 -- a thread's row
@@ -34,18 +34,22 @@ pub record RowWords : Type 0 where
   pub start_values : List ℕ
   pub records : List ℕ
 
--- a queue: how many items it has, the slot of the front one, the heads of its waiting lists, and its 48 slots
+-- a queue: how many items it has, the slot of the front one, the heads of its waiting lists, its 48 slots, and the 12
+-- words behind them
 pub record QueueWords : Type 0 where
   pub count : ℕ
   pub front : ℕ
   pub senders_head : ℕ
   pub receivers_head : ℕ
   pub slots : List ℕ
+  pub padding : List ℕ
 
--- a semaphore: its count, and the head of its waiting list
+-- a semaphore: its count, the head of its waiting list, and two unused words
 pub record SemaphoreWords : Type 0 where
   pub count : ℕ
   pub takers_head : ℕ
+  pub third : ℕ
+  pub fourth : ℕ
 
 -- the image
 pub record Decoded : Type 0 where
@@ -67,6 +71,9 @@ pub record Decoded : Type 0 where
   pub console : List ℕ
   pub heap : List ℕ
   pub live : List ℕ
+  -- the unused words: 48 of the header, and 1,856 behind the journal
+  pub spare_header : List ℕ
+  pub spare : List ℕ
 
 -- the first n values of a function
 unfoldable pub listed : {X : Type 0} → ℕ → (ℕ → X) → List X
@@ -103,11 +110,17 @@ queue_of word q = record {
   senders_head = word (QueueWord q 2);
   receivers_head = word (QueueWord q 3);
   slots = listed 48 (λ i. word (QueueItem q i));
+  padding = listed 12 (λ i. word (QueueSpare q i));
 }
 
 -- a semaphore by its number
 abbrev pub semaphore_of : (Cell → ℕ) → ℕ → SemaphoreWords
-semaphore_of word s = record { count = word (SemaphoreWord s 0); takers_head = word (SemaphoreWord s 1) }
+semaphore_of word s = record {
+  count = word (SemaphoreWord s 0);
+  takers_head = word (SemaphoreWord s 1);
+  third = word (SemaphoreWord s 2);
+  fourth = word (SemaphoreWord s 3);
+}
 
 -- the heads of the ready lists by priority
 abbrev pub ready_heads_of : (Cell → ℕ) → List ℕ
@@ -131,6 +144,8 @@ decoded_of word = record {
   console = listed 2048 (λ i. word (ConsoleWord i));
   heap = listed 4096 (λ p. word (HeapWord p));
   live = listed 64 (λ i. word (LiveWord i));
+  spare_header = listed 48 (λ i. word (SpareHeader i));
+  spare = listed 1856 (λ i. word (Spare i));
 }
 
 -- the image in the words as they are, and as they are with the journal undone
@@ -164,10 +179,10 @@ blank_row = record {
 }
 
 abbrev pub blank_queue : QueueWords
-blank_queue = record { count = 0; front = 0; senders_head = 0; receivers_head = 0; slots = [] }
+blank_queue = record { count = 0; front = 0; senders_head = 0; receivers_head = 0; slots = []; padding = [] }
 
 abbrev pub blank_semaphore : SemaphoreWords
-blank_semaphore = record { count = 0; takers_head = 0 }
+blank_semaphore = record { count = 0; takers_head = 0; third = 0; fourth = 0 }
 
 -- the row of a thread, and the image with another one
 abbrev pub row_at : Decoded → ℕ → RowWords
@@ -193,8 +208,10 @@ with_semaphore d s semaphore = record d { semaphores = slice_set d.semaphores s 
 -- whether a cell is one of the heap: word 6, the places and the live bits
 abbrev pub of_heap : Cell → Bool
 of_heap (Header at) = at == 6
+of_heap (SpareHeader i) = false
 of_heap (QueueWord queue word) = false
 of_heap (QueueItem queue slot) = false
+of_heap (QueueSpare queue i) = false
 of_heap (SemaphoreWord semaphore word) = false
 of_heap (RowWord thread word) = false
 of_heap (StartValue thread value) = false
@@ -202,6 +219,7 @@ of_heap (RecordWord thread word) = false
 of_heap (ConsoleWord word) = false
 of_heap (HeapWord place) = true
 of_heap (LiveWord word) = true
+of_heap (Spare i) = false
 
 -- an image with the heap of another one
 abbrev pub with_heap_of : Decoded → Decoded → Decoded

@@ -2,12 +2,12 @@
 use Rattle.std.specs.Prelude.{ℕ, zero, suc, ◌+◌, ◌-◌, ◌*◌, ◌==◌, Bool, if◌then◌else◌, List, [], ◌∷◌, length, Some, None, is_some, slice_get, slice_index}
 use Rattle.undo_journal.specs.Undo.{magic}
 use Rattle.kernel_model.specs.declared.wait.TheConstants.{NEVER}
-use Rattle.kernel_model.specs.Numbers.{template_number}
+use Rattle.thread_tree.specs.Numbers.{template_number}
 use Rattle.kernel_model.specs.Objects.{end_of, first_place, end_place, object_at, static_objects}
 use Rattle.kernel_model.specs.Visible.{Object}
 use Rattle.thread_tree.specs.Program.{Program, Start}
 use Rattle.kernel_image.specs.declared.cell.Cell.{Cell}
-use Rattle.kernel_image.specs.declared.cell.Cell.TheVariants.{Header, QueueWord, QueueItem, SemaphoreWord, RowWord, StartValue, RecordWord, ConsoleWord, HeapWord, LiveWord}
+use Rattle.kernel_image.specs.declared.cell.Cell.TheVariants.{Header, SpareHeader, QueueWord, QueueItem, QueueSpare, SemaphoreWord, RowWord, StartValue, RecordWord, ConsoleWord, HeapWord, LiveWord, Spare}
 use Rattle.kernel_image.specs.Cells.{cell_of}
 use Rattle.kernel_image.specs.Shown.{ready, static_mark}
 
@@ -85,8 +85,10 @@ initial_live_word p i = of_bits 32 (λ k. is_some (object_at (static_objects p) 
 -- the word of a cell
 unfoldable pub initial_cell : Program → Cell → ℕ
 initial_cell p (Header at) = initial_header p at
+initial_cell p (SpareHeader i) = 0
 initial_cell p (QueueWord queue word) = 0
 initial_cell p (QueueItem queue slot) = 0
+initial_cell p (QueueSpare queue i) = 0
 initial_cell p (SemaphoreWord semaphore word) = initial_semaphore_word p semaphore word
 initial_cell p (RowWord thread word) = initial_row_word p thread word
 initial_cell p (StartValue thread i) = initial_start_value p thread i
@@ -94,6 +96,7 @@ initial_cell p (RecordWord thread i) = 0
 initial_cell p (ConsoleWord i) = 0
 initial_cell p (HeapWord place) = initial_heap_word p place
 initial_cell p (LiveWord i) = initial_live_word p i
+initial_cell p (Spare i) = 0
 
 -- the word at an address
 abbrev pub initial_word : Program → ℕ → ℕ

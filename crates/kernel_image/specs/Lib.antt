@@ -5,3 +5,4 @@ pub mod Initial
 pub mod Declarations
 pub mod Agree
 pub mod Start
+pub mod Unread

@@ -18,8 +18,10 @@ pub fn address(cell: Cell) -> u32
 {
     match cell {
         Cell::Header(at) => at,
+        Cell::SpareHeader(i) => 16 + i,
         Cell::QueueWord(queue, word) => 64 + 64 * queue + word,
         Cell::QueueItem(queue, slot) => 68 + 64 * queue + slot,
+        Cell::QueueSpare(queue, i) => 116 + 64 * queue + i,
         Cell::SemaphoreWord(semaphore, word) => 1_088 + 4 * semaphore + word,
         Cell::RowWord(thread, word) => 1_152 + 288 * thread + word,
         Cell::StartValue(thread, value) => 1_168 + 288 * thread + value,
@@ -27,6 +29,7 @@ pub fn address(cell: Cell) -> u32
         Cell::ConsoleWord(word) => 5_760 + word,
         Cell::HeapWord(place) => 7_808 + place,
         Cell::LiveWord(word) => 11_904 + word,
+        Cell::Spare(i) => 14_528 + i,
     }
 }
 

@@ -17,8 +17,11 @@ use undo_journal::MAGIC;
 pub fn cell_of(at: u32) -> Cell
     ensures cell { result ≡ cell_of at }
 {
-    if at < 64 {
+    if at < 16 {
         return Cell::Header(at);
+    }
+    if at < 64 {
+        return Cell::SpareHeader(at - 16);
     }
     if at < 1_088 {
         return queue_cell((at - 64) / 64, (at - 64) % 64);
@@ -37,9 +40,12 @@ fn queue_cell(queue: u32, word: u32) -> Cell
     ensures cell { result ≡ queue_cell queue word }
 {
     if word < 4 {
-        Cell::QueueWord(queue, word)
-    } else {
+        return Cell::QueueWord(queue, word);
+    }
+    if word < 52 {
         Cell::QueueItem(queue, word - 4)
+    } else {
+        Cell::QueueSpare(queue, word - 52)
     }
 }
 
@@ -69,9 +75,12 @@ fn behind_rows(at: u32) -> Cell
         return Cell::HeapWord(at - 7_808);
     }
     if at < 11_968 {
-        Cell::LiveWord(at - 11_904)
-    } else {
+        return Cell::LiveWord(at - 11_904);
+    }
+    if at < 14_528 {
         Cell::Header(at)
+    } else {
+        Cell::Spare(at - 14_528)
     }
 }
 
@@ -148,8 +157,11 @@ fn initial_cell(program: &Checked, cell: Cell) -> u32
         Cell::SemaphoreWord(..)
         | Cell::QueueWord(..)
         | Cell::QueueItem(..)
+        | Cell::QueueSpare(..)
         | Cell::RecordWord(..)
-        | Cell::ConsoleWord(..) => 0,
+        | Cell::ConsoleWord(..)
+        | Cell::SpareHeader(..)
+        | Cell::Spare(..) => 0,
     }
 }
 

@@ -2,7 +2,7 @@
 ghost use Rattle.std.specs.Prelude.{◌≡◌, ◌<◌, ◌≤◌, length};
 ghost use Rattle.thread_tree.specs.Program.{program_of};
 ghost use Rattle.kernel_model.specs.Calls.{capacity_of};
-ghost use Rattle.kernel_model.specs.Numbers.{template_number, kind_number, fields_of};
+ghost use Rattle.thread_tree.specs.Numbers.{template_number, kind_number, fields_of};
 ghost use Rattle.kernel_image.specs.Declarations.{capacity_in, count_in, priority_in, field_count_in};
 ghost use Rattle.kernel_image.specs.Initial.{initial_count, priority_of};
 

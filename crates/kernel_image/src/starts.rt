@@ -1,7 +1,7 @@
 // The threads that a program starts, by their numbers.
 ghost use Rattle.std.specs.Prelude.{◌≡◌, ◌<◌, ◌≤◌, length, slice_get, option_map};
 ghost use Rattle.thread_tree.specs.Program.{program_of};
-ghost use Rattle.kernel_model.specs.Numbers.{template_number};
+ghost use Rattle.thread_tree.specs.Numbers.{template_number};
 ghost use Rattle.kernel_image.specs.Declarations.{started_in, argument_count_in, argument_in};
 ghost use Rattle.kernel_image.specs.Initial.{initial_row_word, initial_start_value, argument_count, priority_of};
 

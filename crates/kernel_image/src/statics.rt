@@ -1,7 +1,7 @@
 // The static objects of a program, which lie one after another from place 2 on.
 ghost use Rattle.std.specs.Prelude.{◌≡◌, ◌≤◌, length, IfSome, option_map};
 ghost use Rattle.thread_tree.specs.Program.{program_of};
-ghost use Rattle.kernel_model.specs.Numbers.{fields_of};
+ghost use Rattle.thread_tree.specs.Numbers.{fields_of};
 ghost use Rattle.kernel_model.specs.Objects.{block_size, object_at, static_objects};
 ghost use Rattle.kernel_image.specs.Declarations.{kind_name_in};
 ghost use Rattle.kernel_image.specs.Initial.{first_hole};

@@ -8,7 +8,7 @@ use Rattle.kernel_model.specs.Kernel.{Activity, Thread, State, thread_of, change
 use Rattle.kernel_model.specs.Kernel.Activity.{Ready, Delayed, Waiting}
 use Rattle.kernel_model.specs.Kernel.Row.{Live}
 use Rattle.kernel_model.specs.Order.{chosen}
-use Rattle.kernel_model.specs.Numbers.{template_number, queue_number, semaphore_number}
+use Rattle.thread_tree.specs.Numbers.{template_number, queue_number, semaphore_number}
 use Rattle.kernel_model.specs.Serve.{becomes, next_words, words_of, settle, settled}
 use Rattle.kernel_model.specs.Serve.Fate.{Stops}
 use Rattle.kernel_model.specs.Calls.{has_channel, delivered, input}
@@ -17,9 +17,10 @@ use Rattle.kernel_model.specs.Transactions.BlockEnd.{Gave, Aborted, Fault}
 use Rattle.kernel_model.specs.Act.{whom, printed_line, effect_of_call, effect_of_end, effect_of_layer, effect_of, is_own_delete, call_of, deletes_itself, need}
 use Rattle.kernel_model.specs.Run.{record_room, ordinary_end, watchdog, no_record_room, arrived, step_of, step, counted, one}
 use Rattle.kernel_model.specs.Sound.{IsHeld, IsDoing, IsSound, next_call, is_delay, awaited_by}
+use Rattle.kernel_model.specs.Effects.{IsCaller, IsSoundEffect}
 use Rattle.kernel_model.proofs.RowLemmas.{live_within, changed-is, set_thread}
 use Rattle.kernel_model.proofs.OrderLemmas.{head_of_line}
-use Rattle.kernel_model.proofs.ServeLemmas.{sound_thread, sound-changed, IsCaller, IsSoundEffect, settle-sound, settled-sound}
+use Rattle.kernel_model.proofs.ServeLemmas.{sound_thread, sound-changed, settle-sound, settled-sound}
 use Rattle.kernel_model.proofs.QueueLemmas.{Follows, delivered-sound}
 use Rattle.kernel_model.proofs.CallLemmas.{print-sound, spawn-sound, delete-sound, getprio-sound, now-sound, waiting-sound, yield-sound, setprio-sound, delay-sound, send-sound, receive-sound, take-sound, give-sound}
 use Rattle.kernel_model.proofs.BlockLemmas.{IsGoodEnd, block-good}
@@ -45,13 +46,13 @@ most_events = 1000000
 module _ (p : Program) (limits : IsWithinLimits p) (K : State) (t : ℕ) (local : LocalState) (debt : ℕ) (h : IsSound p K)
     (caller : IsCaller K t local debt) (few : K.events ≤ most_events) where
   -- a call that comes next
-  call-sound : (c : Call) → next_call local ≡ Some c → debt + cond (is_own_delete t local.top.locals c) 0 (next_words local) ≤ record_room →
+  call-sound : (c : Call) → next_call local ≡ Some c → debt + cond (is_own_delete t local.top.locals c) 0 (next_words p local) ≤ record_room →
       IsSoundEffect p t local debt (effect_of_call p K t local.top.locals c)
   call-sound (call.Print items) e room = print-sound p K t local debt h caller room (printed_line local.top.locals items)
   call-sound (call.Spawn template arguments) e room =
       spawn-sound p K t local debt h caller limits room (template_number p template.name) (values_in local.top.locals arguments)
   call-sound (call.Delete target) e room = delete-sound p K t local debt h caller (whom t local.top.locals target)
-      (λ other. subst (λ (b : Bool). debt + cond b 0 (next_words local) ≤ record_room) other room)
+      (λ other. subst (λ (b : Bool). debt + cond b 0 (next_words p local) ≤ record_room) other room)
   call-sound (call.Delay ticks) e room =
       delay-sound p K t local debt h caller few room (ap (option_map is_delay) e) (value_of local.top.locals ticks)
   call-sound (call.Setprio target priority) e room =
@@ -73,7 +74,7 @@ module _ (p : Program) (limits : IsWithinLimits p) (K : State) (t : ℕ) (local 
   stops-sound code = record { sound = h; caller = caller; fit = tt }
 
   -- the end of a block
-  end-sound : debt + next_words local ≤ record_room → (given : ℕ) (end : BlockEnd) → IsGoodEnd p end →
+  end-sound : debt + next_words p local ≤ record_room → (given : ℕ) (end : BlockEnd) → IsGoodEnd p end →
       IsSoundEffect p t local debt (effect_of_end K given end)
   end-sound room given (Gave objects values) good = record {
     sound = record { rows = h.rows; ticks = h.ticks; queues = h.queues; console = h.console; objects = good };
@@ -84,8 +85,8 @@ module _ (p : Program) (limits : IsWithinLimits p) (K : State) (t : ℕ) (local 
   end-sound room given (Fault code) good = stops-sound code
 
   -- an action that comes next, by the layer of its statement
-  layer-sound : (s : Stmt-F Stmt Block) → next_call local ≡ call_of s → next_words local ≡ words_of (action_layer s) →
-      debt + cond (deletes_itself t local.top.locals (call_of s)) 0 (words_of (action_layer s)) ≤ record_room →
+  layer-sound : (s : Stmt-F Stmt Block) → next_call local ≡ call_of s → next_words p local ≡ words_of (action_layer p s) →
+      debt + cond (deletes_itself t local.top.locals (call_of s)) 0 (words_of (action_layer p s)) ≤ record_room →
       IsSoundEffect p t local debt (effect_of_layer p K t local.top.locals s)
   layer-sound (stmt.Let at e) next words room = stops-sound 0
   layer-sound (stmt.Set at e) next words room = stops-sound 0
@@ -102,11 +103,11 @@ module _ (p : Program) (limits : IsWithinLimits p) (K : State) (t : ℕ) (local 
       (subst (λ (n : ℕ). debt + cond (is_own_delete t local.top.locals c) 0 n ≤ record_room) (sym words) room)
 
   -- an action that comes next and whose record has room
-  effect-sound : (s : Stmt) → next_statement local.top.todo ≡ Some s → debt + need t local.top.locals s ≤ record_room →
+  pub effect-sound : (s : Stmt) → next_statement local.top.todo ≡ Some s → debt + need p t local.top.locals s ≤ record_room →
       IsSoundEffect p t local debt (effect_of p K t local.top.locals s)
   effect-sound s next room = layer-sound (out-Stmt s)
       (ap (option_and_then (λ s. call_of (out-Stmt s))) next)
-      (ap (λ (o : Option Stmt). words_of (elim o [ None ↦ None | Some statement ↦ action_of statement ])) next)
+      (ap (λ (o : Option Stmt). words_of (elim o [ None ↦ None | Some statement ↦ action_of p statement ])) next)
       room
 
 -- a thread that arrived at an action stands before it
@@ -138,28 +139,36 @@ module _ (p : Program) where
   pub ahead-before : (s : LocalState) → IsBefore (ahead p s)
   ahead-before s = ahead_by-before 10000 s
 
-module _ (p : Program) (limits : IsWithinLimits p) (K : State) (h : IsSound p K) (few : K.events ≤ most_events) where
+-- who can be chosen is ready
+pub ready-activity : (a : Activity) → elim a [ Ready ↦ true | Delayed wake ↦ false | Waiting wait ↦ false ] ≡ true → a ≡ Ready
+ready-activity Ready e = refl
+ready-activity (Delayed wake) e = absurd (true≢false (sym e))
+ready-activity (Waiting wait) e = absurd (true≢false (sym e))
+
+module _ (p : Program) (K : State) (h : IsSound p K) where
   -- a ready thread after its moves
-  arrived-sound : (t : ℕ) (thread : Thread) (a : Ahead) → thread_of K t ≡ Some thread → thread.activity ≡ Ready → IsSound p (changed K t (arrived a))
+  pub arrived-sound : (t : ℕ) (thread : Thread) (a : Ahead) → thread_of K t ≡ Some thread → thread.activity ≡ Ready → IsSound p (changed K t (arrived a))
   arrived-sound t thread a lives ready = sound-changed p K h t (arrived a) thread lives
       (record {
         known = (sound_thread p K h t thread lives).known;
         paid = (sound_thread p K h t thread lives).paid;
         doing = subst (IsDoing p K.ticks K.queues K.counts a.local thread.debt) (sym ready) tt;
       })
-      refl
+      refl refl
 
-  arrived-caller : (t : ℕ) (thread : Thread) (a : Ahead) → thread_of K t ≡ Some thread → thread.activity ≡ Ready →
-      IsCaller (changed K t (arrived a)) t a.local thread.debt
-  arrived-caller t thread a lives ready = record {
-    thread = arrived a thread;
-    lives = ap (λ (K' : State). thread_of K' t) (changed-is K t (arrived a) thread lives)
-        ∙ set_thread K t (Live (arrived a thread)) (live_within K t thread lives);
-    ready = ready;
-    at = refl;
-    owes = refl;
-  }
+-- a thread that ran ahead is there, and ready to act
+pub arrived-caller : (K : State) (t : ℕ) (thread : Thread) (a : Ahead) → thread_of K t ≡ Some thread → thread.activity ≡ Ready →
+    IsCaller (changed K t (arrived a)) t a.local thread.debt
+arrived-caller K t thread a lives ready = record {
+  thread = arrived a thread;
+  lives = ap (λ (K' : State). thread_of K' t) (changed-is K t (arrived a) thread lives)
+      ∙ set_thread K t (Live (arrived a thread)) (live_within K t thread lives);
+  ready = ready;
+  at = refl;
+  owes = refl;
+}
 
+module _ (p : Program) (limits : IsWithinLimits p) (K : State) (h : IsSound p K) (few : K.events ≤ most_events) where
   -- a step of a ready thread
   step_of-sound : (t : ℕ) (thread : Thread) → thread_of K t ≡ Some thread → thread.activity ≡ Ready → IsSound p (step_of p K t thread)
   step_of-sound t thread lives ready = go (ahead p thread.local).arrival refl
@@ -170,33 +179,28 @@ module _ (p : Program) (limits : IsWithinLimits p) (K : State) (h : IsSound p K)
       K1 : State
       K1 = changed K t (arrived a)
 
-      ended : (code : ℕ) → IsSound p (settle t (Stops code) K1)
-      ended code = settle-sound p K1 t a.local thread.debt (arrived-sound t thread a lives ready) (arrived-caller t thread a lives ready) (Stops code) tt
+      ended : (code : ℕ) → IsSound p (settle p t (Stops code) K1)
+      ended code = settle-sound p K1 t a.local thread.debt (arrived-sound p K h t thread a lives ready) (arrived-caller K t thread a lives ready) (Stops code) tt
 
       acts : (statement : Stmt) → a.arrival ≡ AtAction statement → IsSound p
-          (cond (ltb record_room (thread.debt + need t a.local.top.locals statement)) (settle t (Stops no_record_room) K1)
-          (settled t (effect_of p K1 t a.local.top.locals statement)))
-      acts statement e = cond_both (ltb record_room (thread.debt + need t a.local.top.locals statement)) (settle t (Stops no_record_room) K1)
-          (settled t (effect_of p K1 t a.local.top.locals statement)) (IsSound p)
+          (cond (ltb record_room (thread.debt + need p t a.local.top.locals statement)) (settle p t (Stops no_record_room) K1)
+          (settled p t (effect_of p K1 t a.local.top.locals statement)))
+      acts statement e = cond_both (ltb record_room (thread.debt + need p t a.local.top.locals statement)) (settle p t (Stops no_record_room) K1)
+          (settled p t (effect_of p K1 t a.local.top.locals statement)) (IsSound p)
           (λ no. ended no_record_room)
           (λ room. settled-sound p t a.local thread.debt (effect_of p K1 t a.local.top.locals statement)
-          (effect-sound p limits K1 t a.local thread.debt (arrived-sound t thread a lives ready) (arrived-caller t thread a lives ready) few statement
+          (effect-sound p limits K1 t a.local thread.debt (arrived-sound p K h t thread a lives ready) (arrived-caller K t thread a lives ready) few statement
           (ahead-before p thread.local statement e) (ltb-false _ _ room)))
 
       go : (arrival : Arrival) → a.arrival ≡ arrival → IsSound p (elim arrival [
-        | Finished ↦ settle t (Stops ordinary_end) K1
-        | Watchdog ↦ settle t (Stops watchdog) K1
-        | AtAction statement ↦ cond (ltb record_room (thread.debt + need t a.local.top.locals statement)) (settle t (Stops no_record_room) K1)
-            (settled t (effect_of p K1 t a.local.top.locals statement))
+        | Finished ↦ settle p t (Stops ordinary_end) K1
+        | Watchdog ↦ settle p t (Stops watchdog) K1
+        | AtAction statement ↦ cond (ltb record_room (thread.debt + need p t a.local.top.locals statement)) (settle p t (Stops no_record_room) K1)
+            (settled p t (effect_of p K1 t a.local.top.locals statement))
       ])
       go Finished e = ended ordinary_end
       go Watchdog e = ended watchdog
       go (AtAction statement) e = acts statement e
-
-  ready-activity : (a : Activity) → elim a [ Ready ↦ true | Delayed wake ↦ false | Waiting wait ↦ false ] ≡ true → a ≡ Ready
-  ready-activity Ready e = refl
-  ready-activity (Delayed wake) e = absurd (true≢false (sym e))
-  ready-activity (Waiting wait) e = absurd (true≢false (sym e))
 
   pub step-sound : IsSound p (step p K)
   step-sound = go (chosen K) refl
@@ -223,7 +227,7 @@ module _ (p : Program) (limits : IsWithinLimits p) (K : State) (h : IsSound p K)
       go (Some queue) = by (delivered p K queue value) queue (delivered-sound p K h queue value)
 
 -- one event more is counted
-counted-sound : (p : Program) (K : State) → IsSound p K → IsSound p (counted K)
+pub counted-sound : (p : Program) (K : State) → IsSound p K → IsSound p (counted K)
 counted-sound p K h = record {
   rows = h.rows;
   ticks = let le = h.ticks in omega arith;

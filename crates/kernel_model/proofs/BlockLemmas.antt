@@ -7,7 +7,7 @@ use Rattle.kernel_model.specs.Objects.{place_for, with_new, object_at, object_of
 use Rattle.kernel_model.specs.Transactions.{Read, read, read_all, reference_of, counted, most_operations, too_many_operations, bad_reference, with_read, Thing, Work, with_expr, with_made, operated, stored, freed, branched, tested, declared_local, assigned, entered, going_on, moved_by, moved, move, BlockEnd, gives, ended_by, ending, stops, goes_on, block_by, block}
 use Rattle.kernel_model.specs.Transactions.Thing.{Do, End, Test}
 use Rattle.kernel_model.specs.Transactions.BlockEnd.{Gave, Aborted, Fault}
-use Rattle.kernel_model.specs.Numbers.{kind_number}
+use Rattle.thread_tree.specs.Numbers.{kind_number}
 use Rattle.kernel_model.specs.Sound.{AreSoundObjects}
 use Rattle.kernel_model.proofs.ObjectLemmas.{new-sound, field-sound, without-sound}
 use Rattle.thread_tree.specs.declared.local.Local.{Local}

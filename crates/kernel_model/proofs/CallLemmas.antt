@@ -17,9 +17,10 @@ use Rattle.kernel_model.specs.Serve.Fate.{ServesBack, Sleeps, Blocks, Goes}
 use Rattle.kernel_model.specs.Run.{record_room}
 use Rattle.kernel_model.specs.Calls.{print, spawn, delete, delay, setprio, getprio, send, receive, take, give, now, yield, items_waiting, console_room, no_thread, born, birth_row, vacant, with_priority, priority_of, capacity_of, maximum_of, with_item, delivered, value_sent, refilled}
 use Rattle.kernel_model.specs.Sound.{IsHeld, IsToCome, AreSoundRows, IsSound, next_call, is_delay, awaited_by}
+use Rattle.kernel_model.specs.Effects.{IsCaller, IsSoundEffect}
 use Rattle.kernel_model.proofs.RowLemmas.{live_within, changed-is, set-next, set-none, next_stamp, other_thread, set_thread}
 use Rattle.kernel_model.proofs.OrderLemmas.{empty_line}
-use Rattle.kernel_model.proofs.ServeLemmas.{sound_thread, sound-behind, sound-left, IsCaller, caller_stays, IsSoundEffect, behind-other}
+use Rattle.kernel_model.proofs.ServeLemmas.{sound_thread, sound-behind, sound-left, caller_stays, behind-other}
 use Rattle.kernel_model.proofs.QueueLemmas.{waits_by, full_since, empty_since, none_since, queue_within, count_within, sound-items, sound-count, finish-first, Follows, delivered-sound}
 use Rattle.thread_tree.specs.LocalState.{LocalState}
 use Rattle.thread_tree.specs.Program.{Program, Template}
@@ -31,7 +32,7 @@ module _ (p : Program) (K : State) (t : ℕ) (local : LocalState) (debt : ℕ) (
   same = record { sound = h; stays = λ u own lives ready. refl; ticks = refl; events = refl }
 
   -- an action that is finished at once, in a kernel that follows
-  answered : (K' : State) (results : List ℕ) → debt + next_words local ≤ record_room → Follows p K K' →
+  answered : (K' : State) (results : List ℕ) → debt + next_words p local ≤ record_room → Follows p K K' →
       IsSoundEffect p t local debt (answers results K')
   answered K' results room f = record {
     sound = f.sound;
@@ -39,7 +40,7 @@ module _ (p : Program) (K : State) (t : ℕ) (local : LocalState) (debt : ℕ) (
     fit = room;
   }
 
-  pub print-sound : debt + next_words local ≤ record_room → (bytes : List ℕ) → IsSoundEffect p t local debt (print K bytes)
+  pub print-sound : debt + next_words p local ≤ record_room → (bytes : List ℕ) → IsSoundEffect p t local debt (print K bytes)
   print-sound room bytes = cond_both (leb (length K.console + length bytes) console_room)
       (answers (1 ∷ []) (record K { console = K.console ++ bytes })) (answers (0 ∷ []) K) (IsSoundEffect p t local debt)
       (λ le. answered (record K { console = K.console ++ bytes }) (1 ∷ []) room (record {
@@ -62,7 +63,7 @@ module _ (p : Program) (K : State) (t : ℕ) (local : LocalState) (debt : ℕ) (
       let live : thread_of K u ≡ Some own = ap (thread_of K) (sym e) ∙ lives in
       let no : is_none (thread_of K u) ≡ false = ap is_none live in true≢false (sym none ∙ no)
 
-  pub spawn-sound : IsWithinLimits p → debt + next_words local ≤ record_room → (number : ℕ) (arguments : List ℕ) →
+  pub spawn-sound : IsWithinLimits p → debt + next_words p local ≤ record_room → (number : ℕ) (arguments : List ℕ) →
       IsSoundEffect p t local debt (spawn p K number arguments)
   spawn-sound limits room number arguments = go (vacant K.rows) refl
     where
@@ -74,7 +75,7 @@ module _ (p : Program) (K : State) (t : ℕ) (local : LocalState) (debt : ℕ) (
           AreSoundRows p K.ticks K.queues K.counts (K.stamp + 1)
           (set K.rows u (elim o [ None ↦ Free | Some template ↦ Live (born number template arguments K.stamp) ]))
       born-rows u None e = next_stamp p K.ticks K.queues K.counts K.stamp (set K.rows u Free)
-          (set-none p K.ticks K.queues K.counts K.stamp K.rows h.rows u Free tt refl)
+          (set-none p K.ticks K.queues K.counts K.stamp K.rows h.rows u Free tt tt refl)
       born-rows u (Some template) e = set-next p K.ticks K.queues K.counts K.stamp K.rows h.rows u (Live (born number template arguments K.stamp))
           (record {
             known = record {
@@ -85,6 +86,7 @@ module _ (p : Program) (K : State) (t : ℕ) (local : LocalState) (debt : ℕ) (
             paid = omega arith;
             doing = tt;
           })
+          (omega arith)
           refl
 
       vacant_row : (u : ℕ) → vacant K.rows ≡ Some u → is_none (thread_of K u) ≡ true
@@ -106,13 +108,13 @@ module _ (p : Program) (K : State) (t : ℕ) (local : LocalState) (debt : ℕ) (
         events = refl;
       })
 
-  pub delete-sound : (whom : ℕ) → ((whom == t) ≡ false → debt + next_words local ≤ record_room) → IsSoundEffect p t local debt (delete K t whom)
+  pub delete-sound : (whom : ℕ) → ((whom == t) ≡ false → debt + next_words p local ≤ record_room) → IsSoundEffect p t local debt (delete K t whom)
   delete-sound whom room = cond_both (is_live K whom)
       (cond (whom == t) (becomes Goes K) (answers (1 ∷ []) (with_row K whom Free))) (answers (0 ∷ []) K) (IsSoundEffect p t local debt)
       (λ live. cond_both (whom == t) (becomes Goes K) (answers (1 ∷ []) (with_row K whom Free)) (IsSoundEffect p t local debt)
       (λ own. record { sound = h; caller = caller; fit = tt })
       (λ other. record {
-        sound = sound-left p K h whom Free tt refl;
+        sound = sound-left p K h whom Free tt tt refl;
         caller = caller_stays K (with_row K whom Free) t local debt
             (other_thread K t whom Free (λ e. eqb-false whom t other (sym e))) caller;
         fit = room other;
@@ -127,16 +129,16 @@ module _ (p : Program) (K : State) (t : ℕ) (local : LocalState) (debt : ℕ) (
           by false e = refl
           by true e = absurd (true≢false (sym (ap is_some caller.lives) ∙ ap (is_live K) (sym (eqb-true whom t e)) ∙ gone))
 
-  pub getprio-sound : debt + next_words local ≤ record_room → (whom : ℕ) → IsSoundEffect p t local debt (getprio K whom)
+  pub getprio-sound : debt + next_words p local ≤ record_room → (whom : ℕ) → IsSoundEffect p t local debt (getprio K whom)
   getprio-sound room whom = answered K (priority_of K whom ∷ []) room same
 
-  pub now-sound : debt + next_words local ≤ record_room → IsSoundEffect p t local debt (now K)
+  pub now-sound : debt + next_words p local ≤ record_room → IsSoundEffect p t local debt (now K)
   now-sound room = answered K (K.ticks ∷ []) room same
 
-  pub waiting-sound : debt + next_words local ≤ record_room → (queue : ℕ) → IsSoundEffect p t local debt (items_waiting K queue)
+  pub waiting-sound : debt + next_words p local ≤ record_room → (queue : ℕ) → IsSoundEffect p t local debt (items_waiting K queue)
   waiting-sound room queue = answered K (length (items_of K queue) ∷ []) room same
 
-  pub yield-sound : debt + next_words local ≤ record_room → IsSoundEffect p t local debt (yield K)
+  pub yield-sound : debt + next_words p local ≤ record_room → IsSoundEffect p t local debt (yield K)
   yield-sound room = record { sound = h; caller = caller; fit = room }
 
   -- the priority of a thread changes, and the thread goes behind its equals
@@ -174,7 +176,7 @@ module _ (p : Program) (K : State) (t : ℕ) (local : LocalState) (debt : ℕ) (
             (cases_eq t whom),
       )
 
-  pub setprio-sound : debt + next_words local ≤ record_room → (whom priority : ℕ) → IsSoundEffect p t local debt (setprio K whom priority)
+  pub setprio-sound : debt + next_words p local ≤ record_room → (whom priority : ℕ) → IsSoundEffect p t local debt (setprio K whom priority)
   setprio-sound room whom priority = cond_both (is_live K whom && leb priority 7)
       (answers (1 ∷ []) (cond (priority_of K whom == priority) K (behind K whom (with_priority priority)))) (answers (0 ∷ []) K)
       (IsSoundEffect p t local debt)
@@ -189,7 +191,7 @@ module _ (p : Program) (K : State) (t : ℕ) (local : LocalState) (debt : ℕ) (
   pub wake-later : K.events ≤ 1000000 → (ticks : ℕ) → (ticks == 0) ≡ false → (K.ticks < wake_of K ticks) × (wake_of K ticks < NEVER)
   wake-later few ticks some = let ne = eqb-false ticks 0 some in let le = h.ticks in (omega arith, omega arith)
 
-  pub delay-sound : K.events ≤ 1000000 → debt + next_words local ≤ record_room → option_map is_delay (next_call local) ≡ Some true → (ticks : ℕ) →
+  pub delay-sound : K.events ≤ 1000000 → debt + next_words p local ≤ record_room → option_map is_delay (next_call local) ≡ Some true → (ticks : ℕ) →
       IsSoundEffect p t local debt (delay K ticks)
   delay-sound few room call ticks = cond_both (ticks == 0) (becomes (ServesBack []) K) (becomes (Sleeps (wake_of K ticks)) K)
       (IsSoundEffect p t local debt)
@@ -198,12 +200,12 @@ module _ (p : Program) (K : State) (t : ℕ) (local : LocalState) (debt : ℕ) (
       record { sound = h; caller = caller; fit = record { call = call; later = w.0; comes = w.1; room = room } })
 
   -- what can't be done at once
-  pub held-sound : K.events ≤ 1000000 → debt + next_words local ≤ record_room → (what : What) (target value limit : ℕ) →
+  pub held-sound : K.events ≤ 1000000 → debt + next_words p local ≤ record_room → (what : What) (target value limit : ℕ) →
       option_and_then (awaited_by p) (next_call local) ≡ Some (what, target) →
-      IsHeld p K.queues K.counts what target → IsSoundEffect p t local debt (held K what target value limit)
+      IsHeld p K.queues K.counts what target → IsSoundEffect p t local debt (held p K what target value limit)
   held-sound few room what target value limit call lasts =
-      cond_both (limit == 0) (answers (timed_out what) K) (becomes (Blocks wait) K) (IsSoundEffect p t local debt)
-      (λ none. answered K (timed_out what) room same)
+      cond_both (limit == 0) (answers (timed_out p what target) K) (becomes (Blocks wait) K) (IsSoundEffect p t local debt)
+      (λ none. answered K (timed_out p what target) room same)
       (λ some. record {
         sound = h;
         caller = caller;
@@ -218,18 +220,18 @@ module _ (p : Program) (K : State) (t : ℕ) (local : LocalState) (debt : ℕ) (
           (λ never. inl refl)
           (λ ends. let ne = eqb-false limit 0 some in let le = h.ticks in inr (omega arith, omega arith))
 
-  pub send-sound : K.events ≤ 1000000 → debt + next_words local ≤ record_room → (queue value limit : ℕ) →
+  pub send-sound : K.events ≤ 1000000 → debt + next_words p local ≤ record_room → (queue value limit : ℕ) →
       option_and_then (awaited_by p) (next_call local) ≡ Some (Send, queue) →
       IsSoundEffect p t local debt (send p K queue value limit)
   send-sound few room queue value limit call = go (delivered p K queue value) (delivered-sound p K h queue value)
     where
       go : (o : Option State) → MatchOption o (IsHeld p K.queues K.counts Send queue) (Follows p K) →
-          IsSoundEffect p t local debt (elim o [ Some K' ↦ answers (1 ∷ []) K' | None ↦ held K Send queue value limit ])
+          IsSoundEffect p t local debt (elim o [ Some K' ↦ answers (1 ∷ []) K' | None ↦ held p K Send queue value limit ])
       go None full = held-sound few room Send queue value limit call full
       go (Some K') f = answered K' (1 ∷ []) room f
 
   -- an item is taken from a queue, and the first sender's value, if there is one, is put into it
-  pub refilled-sound : (queue item : ℕ) (items : List ℕ) → items_of K queue ≡ item ∷ items → Follows p K (refilled (with_items K queue items) queue)
+  pub refilled-sound : (queue item : ℕ) (items : List ℕ) → items_of K queue ≡ item ∷ items → Follows p K (refilled p (with_items K queue items) queue)
   refilled-sound queue item items is = go (first K Send queue) refl
     where
       K1 : State
@@ -260,7 +262,7 @@ module _ (p : Program) (K : State) (t : ℕ) (local : LocalState) (debt : ℕ) (
           (λ v thread wait lives waits held same. nobody wait.what wait.target (items ++ value ∷ []) held same)
 
       go : (o : Option ℕ) → first K Send queue ≡ o →
-          Follows p K (elim o [ None ↦ K1 | Some u ↦ finish (with_item K1 queue (value_sent K1 u)) u (1 ∷ []) ])
+          Follows p K (elim o [ None ↦ K1 | Some u ↦ finish p (with_item K1 queue (value_sent K1 u)) u (1 ∷ []) ])
       go None e = record {
         sound = sound-items p K h queue items declared (let b = bound in omega arith)
             (λ u thread wait lives is' held same. absurd (true≢false (sym same ∙ sym (waits_by Send queue thread wait is')
@@ -273,18 +275,18 @@ module _ (p : Program) (K : State) (t : ℕ) (local : LocalState) (debt : ℕ) (
       go (Some u) e =
           let K2 : State = with_items K queue (items ++ value_sent K1 u ∷ []) in
           let f = finish-first p K2 (refill (value_sent K1 u) u e) Send queue u (1 ∷ []) e in
-          subst (λ (K' : State). Follows p K (finish K' u (1 ∷ []))) (sym (twice (value_sent K1 u)))
+          subst (λ (K' : State). Follows p K (finish p K' u (1 ∷ []))) (sym (twice (value_sent K1 u)))
           (record { sound = f.0; stays = f.1; ticks = refl; events = refl })
 
-  pub receive-sound : K.events ≤ 1000000 → debt + next_words local ≤ record_room → (queue limit : ℕ) →
+  pub receive-sound : K.events ≤ 1000000 → debt + next_words p local ≤ record_room → (queue limit : ℕ) →
       option_and_then (awaited_by p) (next_call local) ≡ Some (Receive, queue) →
-      IsSoundEffect p t local debt (receive K queue limit)
+      IsSoundEffect p t local debt (receive p K queue limit)
   receive-sound few room queue limit call = go (items_of K queue) refl
     where
       go : (xs : List ℕ) → items_of K queue ≡ xs → IsSoundEffect p t local debt
-          (elim xs [ [] ↦ held K Receive queue 0 limit | item ∷ items ↦ answers (1 ∷ item ∷ []) (refilled (with_items K queue items) queue) ])
+          (elim xs [ [] ↦ held p K Receive queue 0 limit | item ∷ items ↦ answers (1 ∷ item ∷ []) (refilled p (with_items K queue items) queue) ])
       go [] is = held-sound few room Receive queue 0 limit call is
-      go (item ∷ items) is = answered (refilled (with_items K queue items) queue) (1 ∷ item ∷ []) room (refilled-sound queue item items is)
+      go (item ∷ items) is = answered (refilled p (with_items K queue items) queue) (1 ∷ item ∷ []) room (refilled-sound queue item items is)
 
   -- nobody takes from a semaphore whose count is above 0
   no_taker : (semaphore count : ℕ) → count_of K semaphore ≡ suc count → (what : What) (target : ℕ) → IsHeld p K.queues K.counts what target →
@@ -299,13 +301,13 @@ module _ (p : Program) (K : State) (t : ℕ) (local : LocalState) (debt : ℕ) (
   count_declared semaphore count is = subst (λ (n : ℕ). semaphore < n) (sym h.queues.semaphore_count)
       (count_within p semaphore count (let le = h.queues.count semaphore in omega arith))
 
-  pub take-sound : K.events ≤ 1000000 → debt + next_words local ≤ record_room → (semaphore limit : ℕ) →
+  pub take-sound : K.events ≤ 1000000 → debt + next_words p local ≤ record_room → (semaphore limit : ℕ) →
       option_and_then (awaited_by p) (next_call local) ≡ Some (Take, semaphore) →
-      IsSoundEffect p t local debt (take K semaphore limit)
+      IsSoundEffect p t local debt (take p K semaphore limit)
   take-sound few room semaphore limit call = go (count_of K semaphore) refl
     where
       go : (n : ℕ) → count_of K semaphore ≡ n → IsSoundEffect p t local debt
-          (elim n [ zero ↦ held K Take semaphore 0 limit | suc count ↦ answers (1 ∷ []) (with_count K semaphore count) ])
+          (elim n [ zero ↦ held p K Take semaphore 0 limit | suc count ↦ answers (1 ∷ []) (with_count K semaphore count) ])
       go zero is = held-sound few room Take semaphore 0 limit call is
       go (suc count) is = answered (with_count K semaphore count) (1 ∷ []) room (record {
         sound = sound-count p K h semaphore count (count_declared semaphore count is)
@@ -316,7 +318,7 @@ module _ (p : Program) (K : State) (t : ℕ) (local : LocalState) (debt : ℕ) (
         events = refl;
       })
 
-  pub give-sound : debt + next_words local ≤ record_room → (semaphore : ℕ) → IsSoundEffect p t local debt (give p K semaphore)
+  pub give-sound : debt + next_words p local ≤ record_room → (semaphore : ℕ) → IsSoundEffect p t local debt (give p K semaphore)
   give-sound room semaphore = go (first K Take semaphore) refl
     where
       risen : first K Take semaphore ≡ None → count_of K semaphore < maximum_of p semaphore → Follows p K (with_count K semaphore (count_of K semaphore + 1))
@@ -332,12 +334,12 @@ module _ (p : Program) (K : State) (t : ℕ) (local : LocalState) (debt : ℕ) (
 
       go : (o : Option ℕ) → first K Take semaphore ≡ o → IsSoundEffect p t local debt
           (elim o [
-            | Some u ↦ answers (1 ∷ []) (finish K u (1 ∷ []))
+            | Some u ↦ answers (1 ∷ []) (finish p K u (1 ∷ []))
             | None ↦ cond (ltb (count_of K semaphore) (maximum_of p semaphore))
                 (answers (1 ∷ []) (with_count K semaphore (count_of K semaphore + 1))) (answers (0 ∷ []) K)
           ])
       go (Some u) e = let f = finish-first p K h Take semaphore u (1 ∷ []) e in
-          answered (finish K u (1 ∷ [])) (1 ∷ []) room (record { sound = f.0; stays = f.1; ticks = refl; events = refl })
+          answered (finish p K u (1 ∷ [])) (1 ∷ []) room (record { sound = f.0; stays = f.1; ticks = refl; events = refl })
       go None e = cond_both (ltb (count_of K semaphore) (maximum_of p semaphore))
           (answers (1 ∷ []) (with_count K semaphore (count_of K semaphore + 1))) (answers (0 ∷ []) K) (IsSoundEffect p t local debt)
           (λ l. answered (with_count K semaphore (count_of K semaphore + 1)) (1 ∷ []) room (risen e (ltb-true _ _ l)))

@@ -13,6 +13,12 @@ mod StartLemmas
 mod TickLemmas
 mod ActLemmas
 mod RunLaws
+mod StampLaws
+mod ChangeLaws
+mod StepLaws
+mod AwaitLaws
+mod WakingLaws
+mod ResultLaws
 mod SpotLemmas
 mod PlacedLemmas
 mod TurnLemmas

@@ -7,7 +7,7 @@ use Rattle.std.proofs.lemmas.Bool.{cond-false, eqb-false, not-true, cond_both}
 use lib.ListN.{length-replicate}
 use Rattle.kernel_model.specs.Visible.{Object}
 use Rattle.kernel_model.specs.Order.{inserted}
-use Rattle.kernel_model.specs.Numbers.{fields_of}
+use Rattle.thread_tree.specs.Numbers.{fields_of}
 use Rattle.kernel_model.specs.Objects.{block_size, end_of, first_place, end_place, least_from, least, blank_object, is_before, place_for, with_new, object_at, is_made, without, object_with, with_field}
 use Rattle.kernel_model.specs.Sound.{IsLaid, HasKind, place_and_kind, statics_in, AreSoundObjects}
 use Rattle.kernel_model.proofs.OrderLemmas.{inserted-All}

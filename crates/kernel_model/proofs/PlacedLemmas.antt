@@ -16,8 +16,8 @@ use Rattle.thread_tree.specs.Value.{value_of, values_in}
 use Rattle.thread_tree.specs.Kinds.{Action, action_layer, action_of}
 use Rattle.thread_tree.specs.LocalState.{Thing, Frame, LocalState, things, named, with_value, with_values, given_to, going_on, entered, chosen_by, tested, branched, broken, frame_of, moved_by, moved, move, next_statement, next_action, after_first, next_names, bind, loop_block, turned}
 use Rattle.thread_tree.specs.LocalState.Thing.{Do, End, Test, Turn}
-use Rattle.thread_tree.specs.Actions.{Spot, SpotsOf, SpotsIn, spots_in, spots_of_layer, spots_if_some, declared_by, spots, is_loop, loops, inside}
-use Rattle.kernel_model.specs.Placed.{AreSpots, IsLoopAt, StandAt, names_in, values_of as values_in_order, own_frame, IsPlacedFrame, IsPlaced}
+use Rattle.thread_tree.specs.Actions.{Spot, SpotsOf, SpotsIn, spots_in, spots_of_layer, spots_if_some, declared_by, spots, is_loop, loops, inside, names_in, values_of as values_in_order}
+use Rattle.kernel_model.specs.Placed.{AreSpots, IsLoopAt, StandAt, own_frame, IsPlacedFrame, IsPlaced}
 use Rattle.kernel_model.proofs.OrderLemmas.{passing}
 use Rattle.kernel_model.proofs.SpotLemmas.{with_spots, block_spots, spots_of-layer, both-parts, both-All, block_stands, TurnStands, block_turns}
 
@@ -196,7 +196,7 @@ module _ (p : Program) where
   moved-placed s t h e = subst (λ (o : Option LocalState). MatchOption o ⊤ (IsPlaced p)) e (move-placed s h)
 
   -- an action declares nothing
-  action-declares : (s : Stmt-F Stmt Block) (action : Action) → action_layer s ≡ Some action → declared_by s ≡ []
+  action-declares : (s : Stmt-F Stmt Block) (action : Action) → action_layer p s ≡ Some action → declared_by s ≡ []
   action-declares (stmt.Let at e) action is = absurd (let f : ◌≡◌ {A = Option Action} None (Some action) = is in cc)
   action-declares (stmt.Set at e) action is = refl
   action-declares (stmt.Apply to callee arguments) action is = refl
@@ -209,7 +209,7 @@ module _ (p : Program) where
   action-declares (stmt.Call place call to) action is = refl
 
   -- what follows an action
-  after-action : (scope : List ℕ) (todo : List Thing) (action : Action) → elim (next_statement todo) [ None ↦ None | Some statement ↦ action_of statement ] ≡ Some action →
+  after-action : (scope : List ℕ) (todo : List Thing) (action : Action) → elim (next_statement todo) [ None ↦ None | Some statement ↦ action_of p statement ] ≡ Some action →
       StandAt p false scope todo → StandAt p false scope (after_first todo)
   after-action scope [] action e h = tt
   after-action scope (Do s ∷ rest) action e h =
@@ -219,12 +219,12 @@ module _ (p : Program) where
   after-action scope (Turn s ∷ rest) action e h = h.1
 
   -- the results of an action keep a local state where it stands
-  pub bind-placed : (s : LocalState) (action : Action) (results : List ℕ) → IsPlaced p s → next_action s ≡ Some action → IsPlaced p (bind s results)
+  pub bind-placed : (s : LocalState) (action : Action) (results : List ℕ) → IsPlaced p s → next_action p s ≡ Some action → IsPlaced p (bind p s results)
   bind-placed s action results h e = go s.below h
     where
-      go : (frames : List Frame) → IsPlacedFrame p (own_frame s.top frames) → IsPlacedFrame p (own_frame (bind s results).top frames)
+      go : (frames : List Frame) → IsPlacedFrame p (own_frame s.top frames) → IsPlacedFrame p (own_frame (bind p s results).top frames)
       go [] h = record {
-        stands = subst (λ (names : List ℕ). StandAt p false names (after_first s.top.todo)) (sym (names-with_values (next_names s) results s.top.locals))
+        stands = subst (λ (names : List ℕ). StandAt p false names (after_first s.top.todo)) (sym (names-with_values (next_names p s) results s.top.locals))
             (after-action (names_in s.top.locals) s.top.todo action e h.stands);
         lone = h.lone;
       }

@@ -22,7 +22,7 @@ use Rattle.thread_tree.specs.Program.{Program}
 pub room_of_waiting : (p : Program) (ticks : ℕ) (queues : List (List ℕ)) (counts : List ℕ) (what : What) (target : ℕ) (local : LocalState) (debt : ℕ)
     (a : Activity) →
     elim a [ Ready ↦ false | Delayed wake ↦ false | Waiting wait ↦ is_same_what wait.what what && wait.target == target ] ≡ true →
-    IsDoing p ticks queues counts local debt a → debt + next_words local ≤ record_room
+    IsDoing p ticks queues counts local debt a → debt + next_words p local ≤ record_room
 room_of_waiting p ticks queues counts what target local debt Ready e d = absurd (cc)
 room_of_waiting p ticks queues counts what target local debt (Delayed wake) e d = absurd (cc)
 room_of_waiting p ticks queues counts what target local debt (Waiting wait) e d = d.room
@@ -145,13 +145,13 @@ module _ (p : Program) (K : State) where
 
   -- the call of the first that waits for this is finished, and a ready thread stays
   pub finish-first : IsSound p K → (what : What) (target u : ℕ) (results : List ℕ) → first K what target ≡ Some u →
-      IsSound p (finish K u results)
-      × ((t : ℕ) (own : Thread) → thread_of K t ≡ Some own → own.activity ≡ Ready → thread_of (finish K u results) t ≡ thread_of K t)
+      IsSound p (finish p K u results)
+      × ((t : ℕ) (own : Thread) → thread_of K t ≡ Some own → own.activity ≡ Ready → thread_of (finish p K u results) t ≡ thread_of K t)
   finish-first h what target u results e =
       let head = head_of_line (waits_for what target) K u e in (
         finish-sound p K u head.0 results h head.1
             (room_of_waiting p K.ticks K.queues K.counts what target head.0.local head.0.debt head.0.activity head.2 (sound_thread p K h u head.0 head.1).doing),
-        λ t own lives ready. behind-other K t u (awake results) (waits-other K t u what target own head.0 lives ready head.1 head.2),
+        λ t own lives ready. behind-other K t u (awake p results) (waits-other K t u what target own head.0 lives ready head.1 head.2),
       )
 
 -- a kernel is sound, and the ready threads are those of another one
@@ -177,7 +177,7 @@ module _ (p : Program) (K : State) (h : IsSound p K) where
 
       go : (o : Option ℕ) → first K Receive queue ≡ o →
           MatchOption (elim o [
-            | Some u ↦ Some (finish K u (1 ∷ value ∷ []))
+            | Some u ↦ Some (finish p K u (1 ∷ value ∷ []))
             | None ↦ cond (ltb (length (items_of K queue)) (capacity_of p queue)) (Some (with_item K queue value)) None
           ])
           (IsHeld p K.queues K.counts Send queue) (Follows p K)

@@ -9,7 +9,7 @@ use Rattle.kernel_model.specs.Kernel.Activity.{Ready}
 use Rattle.kernel_model.specs.Serve.{words_of, served, awake, turned}
 use Rattle.kernel_model.specs.Calls.{born}
 use Rattle.kernel_model.specs.Run.{arrived}
-use Rattle.kernel_model.specs.Placed.{spot_at, names_in, values_of, IsPlaced}
+use Rattle.kernel_model.specs.Placed.{IsPlaced}
 use Rattle.kernel_model.specs.Relived.{is_open, life_of, words_in, record_of, IsRelived}
 use Rattle.kernel_model.proofs.ActLemmas.{ahead-before}
 use Rattle.kernel_model.proofs.PlacedLemmas.{bind-placed, inside-placed}
@@ -23,7 +23,7 @@ use Rattle.thread_tree.specs.Kinds.{Action, action_of, is_unrecorded, result_cou
 use Rattle.thread_tree.specs.LocalState.{LocalState, next_action, after_first, bind, loop_block, birth}
 use Rattle.thread_tree.specs.Ahead.{Ahead, Arrival, ahead}
 use Rattle.thread_tree.specs.Ahead.Arrival.{AtAction, Finished, Watchdog}
-use Rattle.thread_tree.specs.Actions.{Spot, loops, inside}
+use Rattle.thread_tree.specs.Actions.{Spot, loops, inside, spot_at, names_in, values_of}
 use Rattle.thread_tree.specs.Relive.{Start, Record, Life, where_as_many, started, records, passed_by, passed, relived, opened, begun, relive}
 use Rattle.thread_tree.specs.Relive.Start.{Birth, Loop}
 
@@ -44,17 +44,17 @@ module _ (p : Program) where
   relived-more (x ∷ rs) r life = relived-more rs r (option_and_then (passed p x) life)
 
   -- a life that arrived at an action and passes it by
-  passes : (r : Record) (life : Life) (statement : Stmt) (action : Action) → (ahead p life.local).arrival ≡ AtAction statement → action_of statement ≡ Some action →
+  passes : (r : Record) (life : Life) (statement : Stmt) (action : Action) → (ahead p life.local).arrival ≡ AtAction statement → action_of p statement ≡ Some action →
       records action r ≡ true →
-      passed p r life ≡ Some (record { local = bind (ahead p life.local).local r.results; moves = life.moves + (ahead p life.local).moves; passed = life.passed + 1 })
+      passed p r life ≡ Some (record { local = bind p (ahead p life.local).local r.results; moves = life.moves + (ahead p life.local).moves; passed = life.passed + 1 })
   passes r life statement action at is fits =
       ap (λ (arrival : Arrival). elim arrival [
-        | AtAction statement ↦ option_and_then (λ action. passed_by r life (ahead p life.local) action) (action_of statement)
+        | AtAction statement ↦ option_and_then (λ action. passed_by p r life (ahead p life.local) action) (action_of p statement)
         | Finished ↦ None
         | Watchdog ↦ None
       ]) at
-      ∙ followed (λ action. passed_by r life (ahead p life.local) action) (action_of statement) action is
-      ∙ cond-true (records action r) (Some (record { local = bind (ahead p life.local).local r.results; moves = life.moves + (ahead p life.local).moves; passed = life.passed + 1 })) None fits
+      ∙ followed (λ action. passed_by p r life (ahead p life.local) action) (action_of p statement) action is
+      ∙ cond-true (records action r) (Some (record { local = bind p (ahead p life.local).local r.results; moves = life.moves + (ahead p life.local).moves; passed = life.passed + 1 })) None fits
 
   -- a life that goes on to the action that is open
   opens : (life : Life) (statement : Stmt) → (ahead p life.local).arrival ≡ AtAction statement →
@@ -105,18 +105,18 @@ module _ (p : Program) where
 
     -- an action of a ready thread is served
     pub served-relived : (statement : Stmt) (action : Action) (results : List ℕ) → thread.activity ≡ Ready →
-        (ahead p thread.local).arrival ≡ AtAction statement → action_of statement ≡ Some action → is_unrecorded action.kind ≡ false →
+        (ahead p thread.local).arrival ≡ AtAction statement → action_of p statement ≡ Some action → is_unrecorded action.kind ≡ false →
         length results ≡ result_count action.kind action.given →
-        IsRelived p start (rs ++ record_of action results ∷ []) (served results (arrived (ahead p thread.local) thread))
+        IsRelived p start (rs ++ record_of action results ∷ []) (served p results (arrived (ahead p thread.local) thread))
     unfolding life_up
     served-relived statement action results ready at is recorded many = record {
-      lives = subst (λ (a : Activity). relive p start (rs ++ record_of action results ∷ []) (is_open a) ≡ Some (life_of (served results (arrived (ahead p thread.local) thread)))) (sym ready)
+      lives = subst (λ (a : Activity). relive p start (rs ++ record_of action results ∷ []) (is_open a) ≡ Some (life_of (served p results (arrived (ahead p thread.local) thread)))) (sym ready)
           (relived-more rs (record_of action results) (option_and_then (λ s. Some (begun s)) (started p start))
           ∙ followed (passed p (record_of action results)) life_up (life_of thread) (closed ready)
           ∙ passes (record_of action results) (life_of thread) statement action at is (fits action results many));
       owes = sum_by_push words_in rs (record_of action results) ∙ ap (λ n. n + words_in (record_of action results)) h.owes
           ∙ ap (λ n. thread.debt + n) (sym (words-recorded action results recorded many)
-          ∙ sym (ap words_of (ap (λ (o : Option Stmt). elim o [ None ↦ None | Some statement ↦ action_of statement ]) (ahead-before p thread.local statement at) ∙ is)));
+          ∙ sym (ap words_of (ap (λ (o : Option Stmt). elim o [ None ↦ None | Some statement ↦ action_of p statement ]) (ahead-before p thread.local statement at) ∙ is)));
     }
 
     -- a ready thread comes to a call that stays open
@@ -130,33 +130,33 @@ module _ (p : Program) where
     }
 
     -- an open call is finished
-    pub finished-relived : (action : Action) (results : List ℕ) → is_open thread.activity ≡ true → next_action thread.local ≡ Some action →
+    pub finished-relived : (action : Action) (results : List ℕ) → is_open thread.activity ≡ true → next_action p thread.local ≡ Some action →
         is_unrecorded action.kind ≡ false → length results ≡ result_count action.kind action.given →
-        IsRelived p start (rs ++ record_of action results ∷ []) (awake results thread)
+        IsRelived p start (rs ++ record_of action results ∷ []) (awake p results thread)
     unfolding life_up
     finished-relived action results unfinished next recorded many = go life_up refl
         (ap (λ b. cond b (option_and_then (opened p) life_up) life_up) (sym unfinished) ∙ h.lives)
       where
-        by : (life : Life) → life_up ≡ Some life → opened p life ≡ Some (life_of thread) → IsRelived p start (rs ++ record_of action results ∷ []) (awake results thread)
+        by : (life : Life) → life_up ≡ Some life → opened p life ≡ Some (life_of thread) → IsRelived p start (rs ++ record_of action results ∷ []) (awake p results thread)
         by life up e =
             let at = opened-from life (life_of thread) e in
             let later : Life = record life { local = (ahead p life.local).local; moves = life.moves + (ahead p life.local).moves } in
             let both : Some later ≡ Some (life_of thread) = sym (opens life at.0 at.1) ∙ e in
             let same : later ≡ life_of thread = cc in
-            let stands : next_action later.local ≡ action_of at.0 =
-            ap (λ (o : Option Stmt). elim o [ None ↦ None | Some statement ↦ action_of statement ]) (ahead-before p life.local at.0 at.1) in
-            let is : action_of at.0 ≡ Some action = sym stands ∙ ap (λ (l : Life). next_action l.local) same ∙ next in
+            let stands : next_action p later.local ≡ action_of p at.0 =
+            ap (λ (o : Option Stmt). elim o [ None ↦ None | Some statement ↦ action_of p statement ]) (ahead-before p life.local at.0 at.1) in
+            let is : action_of p at.0 ≡ Some action = sym stands ∙ ap (λ (l : Life). next_action p l.local) same ∙ next in
             record {
               lives = relived-more rs (record_of action results) (option_and_then (λ s. Some (begun s)) (started p start))
                   ∙ followed (passed p (record_of action results)) life_up life up
                   ∙ passes (record_of action results) life at.0 action at.1 is (fits action results many)
-                  ∙ ap (λ (l : Life). Some (record { local = bind l.local results; moves = l.moves; passed = l.passed + 1 })) same;
+                  ∙ ap (λ (l : Life). Some (record { local = bind p l.local results; moves = l.moves; passed = l.passed + 1 })) same;
               owes = sum_by_push words_in rs (record_of action results) ∙ ap (λ n. n + words_in (record_of action results)) h.owes
                   ∙ ap (λ n. thread.debt + n) (sym (words-recorded action results recorded many) ∙ sym (ap words_of next));
             }
 
         go : (o : Option Life) → life_up ≡ o → option_and_then (opened p) o ≡ Some (life_of thread) →
-            IsRelived p start (rs ++ record_of action results ∷ []) (awake results thread)
+            IsRelived p start (rs ++ record_of action results ∷ []) (awake p results thread)
         go None up e = absurd (let f : ◌≡◌ {A = Option Life} None (Some (life_of thread)) = e in cc)
         go (Some life) up e = by life up e
 
@@ -221,21 +221,21 @@ module _ (tree : Tree) where
       a : Ahead
       a = ahead p life.local
 
-      by : (statement : Stmt) → a.arrival ≡ AtAction statement → (o : Option Action) → action_of statement ≡ o →
-          StandsIfSome (option_and_then (λ action. passed_by r life a action) o)
+      by : (statement : Stmt) → a.arrival ≡ AtAction statement → (o : Option Action) → action_of p statement ≡ o →
+          StandsIfSome (option_and_then (λ action. passed_by p r life a action) o)
       by statement at None is = tt
       by statement at (Some action) is = cond_both (records action r)
-          (Some (record { local = bind a.local r.results; moves = life.moves + a.moves; passed = life.passed + 1 })) None StandsIfSome
+          (Some (record { local = bind p a.local r.results; moves = life.moves + a.moves; passed = life.passed + 1 })) None StandsIfSome
           (λ e. bind-placed p a.local action r.results (ahead-placed p life.local h)
-          (ap (λ (o : Option Stmt). elim o [ None ↦ None | Some statement ↦ action_of statement ]) (ahead-before p life.local statement at) ∙ is))
+          (ap (λ (o : Option Stmt). elim o [ None ↦ None | Some statement ↦ action_of p statement ]) (ahead-before p life.local statement at) ∙ is))
           (λ e. tt)
 
       go : (arrival : Arrival) → a.arrival ≡ arrival → StandsIfSome (elim arrival [
-        | AtAction statement ↦ option_and_then (λ action. passed_by r life a action) (action_of statement)
+        | AtAction statement ↦ option_and_then (λ action. passed_by p r life a action) (action_of p statement)
         | Finished ↦ None
         | Watchdog ↦ None
       ])
-      go (AtAction statement) at = by statement at (action_of statement) refl
+      go (AtAction statement) at = by statement at (action_of p statement) refl
       go Finished at = tt
       go Watchdog at = tt
 

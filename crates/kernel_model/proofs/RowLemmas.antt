@@ -1,5 +1,5 @@
 -- The rows of a kernel, where one of them changes.
-use Rattle.std.proofs.Common.{◌≡◌, ◌≢◌, ℕ, zero, suc, ◌+◌, ◌<◌, ◌≤◌, List, [], ◌∷◌, length, get_or, set, AllPairs, Option, Some, None, IfSome, refl, sym, ap, subst, ◌∙◌, ⊎_elim, arith, length-set}
+use Rattle.std.proofs.Common.{◌≡◌, ◌≢◌, ℕ, zero, suc, ◌+◌, ◌<◌, ◌≤◌, List, [], ◌∷◌, length, get_or, set, All, AllPairs, Option, Some, None, IfSome, refl, sym, ap, subst, ◌∙◌, ⊎_elim, arith, length-set}
 use Rattle.std.proofs.lemmas.List.{get_or-set_same, get_or-set_other, get_or_past}
 use Rattle.std.proofs.lemmas.List.Elements.{All-set, All-weaker}
 use Rattle.std.proofs.lemmas.Bool.{cases_eq, cases_lt}
@@ -46,9 +46,20 @@ IsApart-same a b c e h = subst (λ (s : Option ℕ). IfSome s (λ s. IfSome (sta
 pub IsApart-none : (a b : Row) → stamp_in a ≡ None → IsApart a b
 IsApart-none a b e = subst (λ (s : Option ℕ). IfSome s (λ s. IfSome (stamp_in b) (λ t. s ≢ t))) (sym e) tt
 
+-- a past stamp by which a thread stands in a list
+past-listed : (stamp : ℕ) (row : Row) → IsPast stamp row → IfSome (stamp_in row) (λ own. own < stamp)
+past-listed stamp Free h = tt
+past-listed stamp (Ended template priority code) h = tt
+past-listed stamp (Live thread) h = go thread.activity
+  where
+    go : (a : Activity) → IfSome (listed thread.stamp a) (λ own. own < stamp)
+    go Ready = h
+    go (Delayed wake) = tt
+    go (Waiting wait) = h
+
 -- a row with the next stamp
 pub IsApart-next : (a b : Row) (stamp : ℕ) → stamp_in a ≡ Some stamp → IsPast stamp b → IsApart a b
-IsApart-next a b stamp e h = subst (λ (s : Option ℕ). IfSome s (λ s. IfSome (stamp_in b) (λ t. s ≢ t))) (sym e) (below (stamp_in b) h)
+IsApart-next a b stamp e h = subst (λ (s : Option ℕ). IfSome s (λ s. IfSome (stamp_in b) (λ t. s ≢ t))) (sym e) (below (stamp_in b) (past-listed stamp b h))
   where
     below : (t : Option ℕ) → IfSome t (λ own. own < stamp) → IfSome t (λ t. stamp ≢ t)
     below None h = tt
@@ -56,11 +67,9 @@ IsApart-next a b stamp e h = subst (λ (s : Option ℕ). IfSome s (λ s. IfSome 
 
 -- a past stamp stays past
 pub IsPast-more : (stamp : ℕ) (row : Row) → IsPast stamp row → IsPast (stamp + 1) row
-IsPast-more stamp row h = more (stamp_in row) h
-  where
-    more : (t : Option ℕ) → IfSome t (λ own. own < stamp) → IfSome t (λ own. own < stamp + 1)
-    more None h = tt
-    more (Some t) h = omega arith
+IsPast-more stamp Free h = tt
+IsPast-more stamp (Ended template priority code) h = tt
+IsPast-more stamp (Live thread) h = omega arith
 
 -- two rows have stamps that differ
 pub apart_at : (rows : List Row) (i j : ℕ) (d : Row) → AllPairs IsApart rows → i < length rows → j < length rows → i ≢ j →
@@ -103,24 +112,24 @@ apart-set rows i row h new = λ a b d below l. choose a b d below (subst (λ (n 
 module _ (p : Program) (ticks : ℕ) (queues : List (List ℕ)) (counts : List ℕ) (stamp : ℕ) (rows : List Row) where
   -- a row that changes and keeps its stamp
   pub set-same : AreSoundRows p ticks queues counts stamp rows → (i : ℕ) (row : Row) → i < length rows →
-      IsSoundRow p ticks queues counts row → stamp_in row ≡ stamp_in (get_or rows i Free) →
+      IsSoundRow p ticks queues counts row → IsPast stamp row → stamp_in row ≡ stamp_in (get_or rows i Free) →
       AreSoundRows p ticks queues counts stamp (set rows i row)
-  set-same h i row l new same = record {
+  set-same h i row l new below same = record {
     sixteen = length-set rows i row ∙ h.sixteen;
     each = All-set (IsSoundRow p ticks queues counts) rows i row new h.each;
-    past = All-set (IsPast stamp) rows i row (subst (λ (s : Option ℕ). IfSome s (λ own. own < stamp)) (sym same) (h.past i Free l)) h.past;
+    past = All-set (IsPast stamp) rows i row below h.past;
     apart = apart-set rows i row h.apart (λ k d m ne. IsApart-same row (get_or rows i d) (get_or rows k d)
         (same ∙ ap stamp_in (same_default rows i Free d l)) (apart_at rows i k d h.apart l m (λ e. ne (sym e))));
   }
 
   -- a row that changes and has no stamp any more
   pub set-none : AreSoundRows p ticks queues counts stamp rows → (i : ℕ) (row : Row) →
-      IsSoundRow p ticks queues counts row → stamp_in row ≡ None →
+      IsSoundRow p ticks queues counts row → IsPast stamp row → stamp_in row ≡ None →
       AreSoundRows p ticks queues counts stamp (set rows i row)
-  set-none h i row new none = record {
+  set-none h i row new below none = record {
     sixteen = length-set rows i row ∙ h.sixteen;
     each = All-set (IsSoundRow p ticks queues counts) rows i row new h.each;
-    past = All-set (IsPast stamp) rows i row (subst (λ (s : Option ℕ). IfSome s (λ own. own < stamp)) (sym none) tt) h.past;
+    past = All-set (IsPast stamp) rows i row below h.past;
     apart = apart-set rows i row h.apart (λ k d m ne. IsApart-none row (get_or rows k d) none);
   }
 
@@ -135,13 +144,12 @@ module _ (p : Program) (ticks : ℕ) (queues : List (List ℕ)) (counts : List �
 
   -- a row that changes and gets the next stamp
   pub set-next : AreSoundRows p ticks queues counts stamp rows → (i : ℕ) (row : Row) →
-      IsSoundRow p ticks queues counts row → stamp_in row ≡ Some stamp →
+      IsSoundRow p ticks queues counts row → IsPast (stamp + 1) row → stamp_in row ≡ Some stamp →
       AreSoundRows p ticks queues counts (stamp + 1) (set rows i row)
-  set-next h i row new next = record {
+  set-next h i row new below next = record {
     sixteen = length-set rows i row ∙ h.sixteen;
     each = All-set (IsSoundRow p ticks queues counts) rows i row new h.each;
-    past = All-set (IsPast (stamp + 1)) rows i row
-        (subst (λ (s : Option ℕ). IfSome s (λ own. own < stamp + 1)) (sym next) (omega arith))
+    past = All-set (IsPast (stamp + 1)) rows i row below
         (All-weaker (IsPast stamp) (IsPast (stamp + 1)) (IsPast-more stamp) rows h.past);
     apart = apart-set rows i row h.apart (λ k d m ne. IsApart-next row (get_or rows k d) stamp next (h.past k d m));
   }
@@ -158,6 +166,11 @@ live_sound p K t thread h e =
     let row : row_of K t ≡ Live thread = live_in-Some (row_of K t) thread e in
     subst (IsSoundRow p K.ticks K.queues K.counts) row (h.each t Free (within K.rows t thread row))
 
+-- the stamp of a live thread is past
+pub live_past : (stamp : ℕ) (K : State) (t : ℕ) (thread : Thread) → All (IsPast stamp) K.rows → thread_of K t ≡ Some thread → thread.stamp < stamp
+live_past stamp K t thread all e = let row : row_of K t ≡ Live thread = live_in-Some (row_of K t) thread e in
+    subst (IsPast stamp) row (all t Free (within K.rows t thread row))
+
 -- a thread that changes, in its row
 pub changed-is : (K : State) (t : ℕ) (change : Thread → Thread) (thread : Thread) → thread_of K t ≡ Some thread →
     changed K t change ≡ with_row K t (Live (change thread))
@@ -166,23 +179,25 @@ changed-is K t change thread e = ap (λ row. with_row K t (row_with change row))
 -- the rows of the kernel where a thread changes and keeps its stamp
 pub rows-changed : (p : Program) (K : State) (t : ℕ) (change : Thread → Thread) (thread : Thread) →
     AreSoundRows p K.ticks K.queues K.counts K.stamp K.rows → thread_of K t ≡ Some thread →
-    IsSoundRow p K.ticks K.queues K.counts (Live (change thread)) →
+    IsSoundRow p K.ticks K.queues K.counts (Live (change thread)) → (change thread).stamp ≡ thread.stamp →
     stamp_in (Live (change thread)) ≡ stamp_in (Live thread) →
     AreSoundRows p K.ticks K.queues K.counts K.stamp (changed K t change).rows
-rows-changed p K t change thread h e new same =
+rows-changed p K t change thread h e new keeps same =
     subst (λ (K' : State). AreSoundRows p K.ticks K.queues K.counts K.stamp K'.rows) (sym (changed-is K t change thread e))
     (set-same p K.ticks K.queues K.counts K.stamp K.rows h t (Live (change thread)) (live_within K t thread e) new
+    (subst (λ (s : ℕ). s < K.stamp) (sym keeps) (live_past K.stamp K t thread h.past e))
     (same ∙ ap stamp_in (sym (live_in-Some (row_of K t) thread e))))
 
 -- the rows of the kernel where a thread changes and has no stamp any more
 pub rows-changed_none : (p : Program) (K : State) (t : ℕ) (change : Thread → Thread) (thread : Thread) →
     AreSoundRows p K.ticks K.queues K.counts K.stamp K.rows → thread_of K t ≡ Some thread →
-    IsSoundRow p K.ticks K.queues K.counts (Live (change thread)) →
+    IsSoundRow p K.ticks K.queues K.counts (Live (change thread)) → (change thread).stamp ≡ thread.stamp →
     stamp_in (Live (change thread)) ≡ None →
     AreSoundRows p K.ticks K.queues K.counts K.stamp (changed K t change).rows
-rows-changed_none p K t change thread h e new none =
+rows-changed_none p K t change thread h e new keeps none =
     subst (λ (K' : State). AreSoundRows p K.ticks K.queues K.counts K.stamp K'.rows) (sym (changed-is K t change thread e))
-    (set-none p K.ticks K.queues K.counts K.stamp K.rows h t (Live (change thread)) new none)
+    (set-none p K.ticks K.queues K.counts K.stamp K.rows h t (Live (change thread)) new
+    (subst (λ (s : ℕ). s < K.stamp) (sym keeps) (live_past K.stamp K t thread h.past e)) none)
 
 -- the rows of the kernel where a thread changes and goes behind its equals
 pub rows-behind : (p : Program) (K : State) (t : ℕ) (change : Thread → Thread) (thread : Thread) →
@@ -198,10 +213,10 @@ rows-behind p K t change thread h e new =
     row = Live (stamped K.stamp (change thread))
 
     go : (a : Activity) → (change thread).activity ≡ a → AreSoundRows p K.ticks K.queues K.counts (K.stamp + 1) (set K.rows t row)
-    go Ready is = set-next p K.ticks K.queues K.counts K.stamp K.rows h t row new (ap (listed K.stamp) is)
-    go (Delayed wake) is = next_stamp p K.ticks K.queues K.counts K.stamp (set K.rows t row)
-        (set-none p K.ticks K.queues K.counts K.stamp K.rows h t row new (ap (listed K.stamp) is))
-    go (Waiting wait) is = set-next p K.ticks K.queues K.counts K.stamp K.rows h t row new (ap (listed K.stamp) is)
+    go Ready is = set-next p K.ticks K.queues K.counts K.stamp K.rows h t row new (omega arith) (ap (listed K.stamp) is)
+    go (Delayed wake) is = set-none p K.ticks K.queues K.counts (K.stamp + 1) K.rows
+        (next_stamp p K.ticks K.queues K.counts K.stamp K.rows h) t row new (omega arith) (ap (listed K.stamp) is)
+    go (Waiting wait) is = set-next p K.ticks K.queues K.counts K.stamp K.rows h t row new (omega arith) (ap (listed K.stamp) is)
 
 -- another thread than the one whose row is set
 pub other_thread : (K : State) (t u : ℕ) (row : Row) → t ≢ u → thread_of (with_row K u row) t ≡ thread_of K t

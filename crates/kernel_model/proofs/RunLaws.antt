@@ -16,7 +16,7 @@ use Rattle.kernel_model.specs.Calls.{spawn, send, receive, take as take_one, giv
 use Rattle.kernel_model.specs.Transactions.{BlockEnd, block}
 use Rattle.kernel_model.specs.Transactions.BlockEnd.{Gave, Aborted, Fault}
 use Rattle.kernel_model.specs.Act.{effect_of_call, effect_of_end, effect_of_layer, effect_of, need, whom, printed_line}
-use Rattle.kernel_model.specs.Numbers.{template_number, queue_number, semaphore_number}
+use Rattle.thread_tree.specs.Numbers.{template_number, queue_number, semaphore_number}
 use Rattle.kernel_model.specs.Run.{record_room, row_count, ordinary_end, watchdog, no_record_room, arrived, performed, step_of, step, woken_by, woken, all_woken, has_equals, rotated, tick, counted, one, initial, on, after}
 use Rattle.kernel_model.specs.Sound.{IsSound}
 use Rattle.kernel_model.proofs.ActLemmas.{most_events, one-sound}
@@ -50,25 +50,25 @@ either-effect : (n : ℕ) (b : Bool) (x y : Effect) → x.kernel.events ≡ n �
 either-effect n b x y e f = cond_both b x y (λ x. x.kernel.events ≡ n) (λ t. e) (λ t. f)
 
 -- a fate counts no event
-settle-counts : (t : ℕ) (fate : Fate) (K : State) → (settle t fate K).events ≡ K.events
-settle-counts t (Serves results) K = refl
-settle-counts t (ServesBack results) K = refl
-settle-counts t (Sleeps wake) K = refl
-settle-counts t (Blocks wait) K = refl
-settle-counts t Enters K = refl
-settle-counts t (Stops code) K = refl
-settle-counts t Goes K = refl
+settle-counts : (p : Program) (t : ℕ) (fate : Fate) (K : State) → (settle p t fate K).events ≡ K.events
+settle-counts p t (Serves results) K = refl
+settle-counts p t (ServesBack results) K = refl
+settle-counts p t (Sleeps wake) K = refl
+settle-counts p t (Blocks wait) K = refl
+settle-counts p t Enters K = refl
+settle-counts p t (Stops code) K = refl
+settle-counts p t Goes K = refl
 
 module _ (p : Program) (K : State) where
-  held-counts : (what : What) (target value limit : ℕ) → (held K what target value limit).kernel.events ≡ K.events
-  held-counts what target value limit = either-effect K.events (limit == 0) (answers (timed_out what) K)
+  held-counts : (what : What) (target value limit : ℕ) → (held p K what target value limit).kernel.events ≡ K.events
+  held-counts what target value limit = either-effect K.events (limit == 0) (answers (timed_out p what target) K)
       (becomes (Blocks (record { what = what; target = target; value = value; until = until_of K limit })) K) refl refl
 
   delivered-counts : (queue value : ℕ) (L : State) → L.events ≡ K.events → (unwrap_or (delivered p K queue value) L).events ≡ K.events
   delivered-counts queue value L e = go (first K Receive queue)
     where
       go : (o : Option ℕ) → (unwrap_or (elim o [
-        | Some u ↦ Some (finish K u (1 ∷ value ∷ []))
+        | Some u ↦ Some (finish p K u (1 ∷ value ∷ []))
         | None ↦ cond (ltb (length (items_of K queue)) (capacity_of p queue)) (Some (with_item K queue value)) None
       ]) L).events ≡ K.events
       go (Some u) = refl
@@ -79,34 +79,34 @@ module _ (p : Program) (K : State) where
   send-counts queue value limit = go (delivered p K queue value) (delivered-counts queue value K refl)
     where
       go : (o : Option State) → (unwrap_or o K).events ≡ K.events →
-          counted_by (elim o [ Some K' ↦ answers (1 ∷ []) K' | None ↦ held K Send queue value limit ]) ≡ K.events
+          counted_by (elim o [ Some K' ↦ answers (1 ∷ []) K' | None ↦ held p K Send queue value limit ]) ≡ K.events
       go (Some K') e = e
       go None e = held-counts Send queue value limit
 
-  receive-counts : (queue limit : ℕ) → (receive K queue limit).kernel.events ≡ K.events
+  receive-counts : (queue limit : ℕ) → (receive p K queue limit).kernel.events ≡ K.events
   receive-counts queue limit = go (items_of K queue)
     where
-      filled : (items : List ℕ) → (refilled (with_items K queue items) queue).events ≡ K.events
+      filled : (items : List ℕ) → (refilled p (with_items K queue items) queue).events ≡ K.events
       filled items = by (first K Send queue)
         where
           by : (o : Option ℕ) → counted_in (elim o [
             | None ↦ with_items K queue items
-            | Some u ↦ finish (with_item (with_items K queue items) queue (value_sent (with_items K queue items) u)) u (1 ∷ [])
+            | Some u ↦ finish p (with_item (with_items K queue items) queue (value_sent (with_items K queue items) u)) u (1 ∷ [])
           ]) ≡ K.events
           by None = refl
           by (Some u) = refl
 
       go : (xs : List ℕ) → counted_by (elim xs [
-        | [] ↦ held K Receive queue 0 limit
-        | item ∷ items ↦ answers (1 ∷ item ∷ []) (refilled (with_items K queue items) queue)
+        | [] ↦ held p K Receive queue 0 limit
+        | item ∷ items ↦ answers (1 ∷ item ∷ []) (refilled p (with_items K queue items) queue)
       ]) ≡ K.events
       go [] = held-counts Receive queue 0 limit
       go (item ∷ items) = filled items
 
-  take-counts : (semaphore limit : ℕ) → (take_one K semaphore limit).kernel.events ≡ K.events
+  take-counts : (semaphore limit : ℕ) → (take_one p K semaphore limit).kernel.events ≡ K.events
   take-counts semaphore limit = go (count_of K semaphore)
     where
-      go : (n : ℕ) → counted_by (elim n [ zero ↦ held K Take semaphore 0 limit | suc count ↦ answers (1 ∷ []) (with_count K semaphore count) ]) ≡ K.events
+      go : (n : ℕ) → counted_by (elim n [ zero ↦ held p K Take semaphore 0 limit | suc count ↦ answers (1 ∷ []) (with_count K semaphore count) ]) ≡ K.events
       go zero = held-counts Take semaphore 0 limit
       go (suc count) = refl
 
@@ -114,7 +114,7 @@ module _ (p : Program) (K : State) where
   give-counts semaphore = go (first K Take semaphore)
     where
       go : (o : Option ℕ) → counted_by (elim o [
-        | Some u ↦ answers (1 ∷ []) (finish K u (1 ∷ []))
+        | Some u ↦ answers (1 ∷ []) (finish p K u (1 ∷ []))
         | None ↦ cond (ltb (count_of K semaphore) (maximum_of p semaphore))
             (answers (1 ∷ []) (with_count K semaphore (count_of K semaphore + 1))) (answers (0 ∷ []) K)
       ]) ≡ K.events
@@ -170,22 +170,22 @@ module _ (p : Program) (K : State) where
   layer-counts t locals (stmt.Call place c to) = call-counts t locals c
 
   -- an action counts no event
-  pub acts-counts : (t : ℕ) (locals : List Local) (s : Stmt) → (settled t (effect_of p K t locals s)).events ≡ K.events
-  acts-counts t locals s = settle-counts t (effect_of p K t locals s).fate (effect_of p K t locals s).kernel ∙ layer-counts t locals (out-Stmt s)
+  pub acts-counts : (t : ℕ) (locals : List Local) (s : Stmt) → (settled p t (effect_of p K t locals s)).events ≡ K.events
+  acts-counts t locals s = settle-counts p t (effect_of p K t locals s).fate (effect_of p K t locals s).kernel ∙ layer-counts t locals (out-Stmt s)
 
   performed-counts : (t : ℕ) (a : Ahead) (thread : Thread) → (performed p K t a thread).events ≡ K.events
   performed-counts t a thread = go a.arrival
     where
       go : (arrival : Arrival) → counted_in (elim arrival [
-        | Finished ↦ settle t (Stops ordinary_end) K
-        | Watchdog ↦ settle t (Stops watchdog) K
-        | AtAction statement ↦ cond (ltb record_room (thread.debt + need t a.local.top.locals statement)) (settle t (Stops no_record_room) K)
-            (settled t (effect_of p K t a.local.top.locals statement))
+        | Finished ↦ settle p t (Stops ordinary_end) K
+        | Watchdog ↦ settle p t (Stops watchdog) K
+        | AtAction statement ↦ cond (ltb record_room (thread.debt + need p t a.local.top.locals statement)) (settle p t (Stops no_record_room) K)
+            (settled p t (effect_of p K t a.local.top.locals statement))
       ]) ≡ K.events
       go Finished = refl
       go Watchdog = refl
-      go (AtAction statement) = either-counts K.events (ltb record_room (thread.debt + need t a.local.top.locals statement))
-          (settle t (Stops no_record_room) K) (settled t (effect_of p K t a.local.top.locals statement)) refl
+      go (AtAction statement) = either-counts K.events (ltb record_room (thread.debt + need p t a.local.top.locals statement))
+          (settle p t (Stops no_record_room) K) (settled p t (effect_of p K t a.local.top.locals statement)) refl
           (acts-counts t a.local.top.locals statement)
 
 -- a step counts no event itself
@@ -200,20 +200,20 @@ step-counts p K = go (chosen K)
     go None = refl
     go (Some t) = by t (thread_of K t)
 
-woken-counts : (K : State) (t : ℕ) → (woken K t).events ≡ K.events
-woken-counts K t = go (thread_of K t)
+woken-counts : (p : Program) (K : State) (t : ℕ) → (woken p K t).events ≡ K.events
+woken-counts p K t = go (thread_of K t)
   where
-    by : (o : Option (List ℕ)) → counted_in (elim o [ None ↦ K | Some results ↦ finish K t results ]) ≡ K.events
+    by : (o : Option (List ℕ)) → counted_in (elim o [ None ↦ K | Some results ↦ finish p K t results ]) ≡ K.events
     by None = refl
     by (Some results) = refl
 
-    go : (o : Option Thread) → counted_in (elim o [ None ↦ K | Some thread ↦ elim (woken_by K.ticks thread.activity) [ None ↦ K | Some results ↦ finish K t results ] ]) ≡ K.events
+    go : (o : Option Thread) → counted_in (elim o [ None ↦ K | Some thread ↦ elim (woken_by p K.ticks thread.activity) [ None ↦ K | Some results ↦ finish p K t results ] ]) ≡ K.events
     go None = refl
-    go (Some thread) = by (woken_by K.ticks thread.activity)
+    go (Some thread) = by (woken_by p K.ticks thread.activity)
 
-each_woken-counts : (ts : List ℕ) (K : State) → (fold woken K ts).events ≡ K.events
-each_woken-counts [] K = refl
-each_woken-counts (t ∷ ts) K = each_woken-counts ts (woken K t) ∙ woken-counts K t
+each_woken-counts : (p : Program) (ts : List ℕ) (K : State) → (fold (woken p) K ts).events ≡ K.events
+each_woken-counts p [] K = refl
+each_woken-counts p (t ∷ ts) K = each_woken-counts p ts (woken p K t) ∙ woken-counts p K t
 
 rotated-counts : (K : State) (o : Option ℕ) → (rotated K o).events ≡ K.events
 rotated-counts K None = refl
@@ -223,10 +223,10 @@ rotated-counts K (Some t) = go (thread_of K t)
     go None = refl
     go (Some thread) = either-counts K.events (has_equals K t thread) (behind K t (λ same. same)) K refl refl
 
-tick-counts : (K : State) → (tick K).events ≡ K.events
+tick-counts : (p : Program) (K : State) → (tick p K).events ≡ K.events
 unfolding all_woken
-tick-counts K = rotated-counts (all_woken (record K { ticks = K.ticks + 1 })) (chosen K)
-    ∙ each_woken-counts (range_with_len 0 row_count) (record K { ticks = K.ticks + 1 })
+tick-counts p K = rotated-counts (all_woken p (record K { ticks = K.ticks + 1 })) (chosen K)
+    ∙ each_woken-counts p (range_with_len 0 row_count) (record K { ticks = K.ticks + 1 })
 
 input-counts : (p : Program) (K : State) (channel value : ℕ) → (input p K channel value).events ≡ K.events
 input-counts p K channel value = go (position (has_channel channel) p.queues)
@@ -238,7 +238,7 @@ input-counts p K channel value = go (position (has_channel channel) p.queues)
 -- each event raises the counter by one
 pub one-counts : (p : Program) (K : State) (event : Event) → (one p K event).events ≡ K.events + 1
 one-counts p K Step = step-counts p (counted K)
-one-counts p K Tick = tick-counts (counted K)
+one-counts p K Tick = tick-counts p (counted K)
 one-counts p K (Input channel value) = input-counts p (counted K) channel value
 
 -- so many events raise it by their number

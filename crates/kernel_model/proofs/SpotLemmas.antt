@@ -8,8 +8,8 @@ use Rattle.thread_tree.specs.declared.block.Stmt.TheOpen as stmt
 use Rattle.thread_tree.specs.Program.{Program}
 use Rattle.thread_tree.specs.LocalState.{Thing, loop_block}
 use Rattle.thread_tree.specs.LocalState.Thing.{Do, End, Test, Turn}
-use Rattle.thread_tree.specs.Actions.{Spot, SpotsOf, SpotsIn, spots_in, spots_of_layer, spots_in_turn, spots_in_layer, declared_by, spots}
-use Rattle.kernel_model.specs.Placed.{spots_of, AreSpots, spot_at, IsLoopAt, StandAt}
+use Rattle.thread_tree.specs.Actions.{Spot, SpotsOf, SpotsIn, spots_in, spots_of_layer, spots_in_turn, spots_in_layer, declared_by, spots, spot_at}
+use Rattle.kernel_model.specs.Placed.{spots_of, AreSpots, IsLoopAt, StandAt}
 
 -- a statement and a block with their spots
 abbrev pub with_spots : Stmt → Stmt × SpotsOf

@@ -8,11 +8,11 @@ use Rattle.std.proofs.lemmas.Option.{slice_get_within, get_or_from_slice_get}
 use Rattle.std.proofs.lemmas.Bool.{cond_both, leb-false, lt-leb}
 use lib.ListN.{length-replicate}
 use Rattle.kernel_model.specs.Visible.{Object}
-use Rattle.kernel_model.specs.Numbers.{fields_of, kind_number}
+use Rattle.thread_tree.specs.Numbers.{fields_of, kind_number}
 use Rattle.kernel_model.specs.Objects.{kind_in, declared_kind, block_size, end_of, first_place, end_place, least_from, least, static_object, with_static, static_objects}
 use Rattle.kernel_model.specs.Kernel.{Row}
 use Rattle.kernel_model.specs.Kernel.Row.{Free, Live}
-use Rattle.kernel_model.specs.Numbers.{template_number}
+use Rattle.thread_tree.specs.Numbers.{template_number}
 use Rattle.kernel_model.specs.Calls.{born, birth_row, capacity_of}
 use Rattle.kernel_model.specs.Run.{row_count, start_row, start_rows, initial}
 use Rattle.kernel_model.specs.Sound.{IsLaid, IsPacked, HasKind, AreSoundObjects, IsSoundRow, stamp_in, IsPast, IsApart, IsSound}
@@ -214,14 +214,11 @@ module _ (p : Program) (limits : IsWithinLimits p) where
 
   starts-past : (starts : List Start) (n to : ℕ) → n + length starts ≤ to → AllByRecursion (IsPast to) (map (start_row p) (enumerate_from n starts))
   starts-past [] n to le = tt
-  starts-past (s ∷ ss) n to le = (
-    below (stamp_in (start_row p (n, s))) (birth-sound 0 [] [] (template_number p s.template) s.arguments n).1,
-    starts-past ss (n + 1) to (omega arith),
-  )
+  starts-past (s ∷ ss) n to le = (below (slice_get p.templates (template_number p s.template)), starts-past ss (n + 1) to (omega arith))
     where
-      below : (o : Option ℕ) → IfSome o (λ t. t ≡ n) → IfSome o (λ t. t < to)
-      below None h = tt
-      below (Some t) h = omega arith
+      below : (o : Option Template) → IsPast to (elim o [ None ↦ Free | Some template ↦ Live (born (template_number p s.template) template s.arguments n) ])
+      below None = tt
+      below (Some template) = omega arith
 
   starts-length : (starts : List Start) (n : ℕ) → length (map (start_row p) (enumerate_from n starts)) ≡ length starts
   starts-length [] n = refl

@@ -16,8 +16,8 @@ use Rattle.thread_tree.specs.Program.{Program, Body, Template, sorted, program_o
 use Rattle.thread_tree.specs.LocalState.{Thing, Frame, LocalState, things, entered, move, next_statement, after_first, loop_block, turned, turn, birth}
 use Rattle.thread_tree.specs.LocalState.Thing.{Do, End, Test, Turn}
 use Rattle.thread_tree.specs.Ahead.{Ahead, stops, goes_on, ahead_by, ahead}
-use Rattle.thread_tree.specs.Actions.{Spot, SpotsOf, SpotsIn, spots_in, spots_of_layer, spots, is_loop, loops, at_turn, inside}
-use Rattle.kernel_model.specs.Placed.{AreSpots, spot_at, IsLoopAt, StandAt, names_in, values_of as values_in_order, own_frame, IsPlacedFrame, IsPlaced}
+use Rattle.thread_tree.specs.Actions.{Spot, SpotsOf, SpotsIn, spots_in, spots_of_layer, spots, is_loop, loops, at_turn, inside, spot_at, names_in, values_of as values_in_order}
+use Rattle.kernel_model.specs.Placed.{AreSpots, IsLoopAt, StandAt, own_frame, IsPlacedFrame, IsPlaced}
 use Rattle.kernel_model.proofs.SpotLemmas.{with_spots, block_spots, spots_of-layer, both-parts, body_stands}
 use Rattle.kernel_model.proofs.PlacedLemmas.{named-parts, names-named, move-placed, inside-placed, all_spots}
 

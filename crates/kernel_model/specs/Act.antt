@@ -1,7 +1,7 @@
 -- What the action that a statement is does to the kernel.
 use Rattle.std.specs.Prelude.{ℕ, ◌+◌, ◌-◌, ◌==◌, Bool, false, if◌then◌else◌, List, [], ◌∷◌, ◌++◌, length, flat_map, replicate, Option, Some, None, decimal}
 use Rattle.kernel_model.specs.Kernel.{State}
-use Rattle.kernel_model.specs.Numbers.{template_number, queue_number, semaphore_number}
+use Rattle.thread_tree.specs.Numbers.{template_number, queue_number, semaphore_number}
 use Rattle.kernel_model.specs.Serve.{Effect, answers, becomes, words_of}
 use Rattle.kernel_model.specs.Serve.Fate.{Enters, Stops}
 use Rattle.kernel_model.specs.Calls.{print, spawn, delete, delay, setprio, getprio, send, receive, take, give, now, yield, items_waiting}
@@ -47,9 +47,9 @@ effect_of_call p K t locals (call.Setprio target priority) = setprio K (whom t l
 effect_of_call p K t locals (call.Getprio target) = getprio K (whom t locals target)
 effect_of_call p K t locals (call.Send queue value limit) =
     send p K (queue_number p queue.name) (value_of locals value) (value_of locals limit)
-effect_of_call p K t locals (call.Receive queue limit) = receive K (queue_number p queue.name) (value_of locals limit)
+effect_of_call p K t locals (call.Receive queue limit) = receive p K (queue_number p queue.name) (value_of locals limit)
 effect_of_call p K t locals (call.Take semaphore limit) =
-    take K (semaphore_number p semaphore.name) (value_of locals limit)
+    take p K (semaphore_number p semaphore.name) (value_of locals limit)
 effect_of_call p K t locals (call.Give semaphore) = give p K (semaphore_number p semaphore.name)
 effect_of_call p K t locals call.Now = now K
 effect_of_call p K t locals call.Yield = yield K
@@ -103,6 +103,6 @@ deletes_itself t locals None = false
 deletes_itself t locals (Some c) = is_own_delete t locals c
 
 -- the words that the records must have room for before an action; a delete of the thread itself needs none
-abbrev pub need : ℕ → List Local → Stmt → ℕ
-need t locals statement =
-    if deletes_itself t locals (call_of (out-Stmt statement)) then 0 else words_of (action_of statement)
+abbrev pub need : Program → ℕ → List Local → Stmt → ℕ
+need p t locals statement =
+    if deletes_itself t locals (call_of (out-Stmt statement)) then 0 else words_of (action_of p statement)

@@ -100,7 +100,7 @@ with_item K queue value = with_items K queue (items_of K queue ++ value ∷ [])
 -- the kernel where a value is handed to the first receiver, or put into the queue where there is space
 abbrev pub delivered : Program → State → ℕ → ℕ → Option State
 delivered p K queue value = elim (first K Receive queue) [
-  | Some u ↦ Some (finish K u (1 ∷ value ∷ []))
+  | Some u ↦ Some (finish p K u (1 ∷ value ∷ []))
   | None ↦ if nat_lt (length (items_of K queue)) (capacity_of p queue) then Some (with_item K queue value) else None
 ]
 
@@ -108,7 +108,7 @@ delivered p K queue value = elim (first K Receive queue) [
 abbrev pub send : Program → State → ℕ → ℕ → ℕ → Effect
 send p K queue value limit = elim (delivered p K queue value) [
   | Some K' ↦ answers (1 ∷ []) K'
-  | None ↦ held K Send queue value limit
+  | None ↦ held p K Send queue value limit
 ]
 
 -- what a thread waits to send
@@ -119,30 +119,30 @@ value_sent K t = elim (thread_of K t) [
 ]
 
 -- the kernel where the value of the first sender, if there is one, is put into the queue, and its call is finished
-abbrev pub refilled : State → ℕ → State
-refilled K queue = elim (first K Send queue) [
+abbrev pub refilled : Program → State → ℕ → State
+refilled p K queue = elim (first K Send queue) [
   | None ↦ K
-  | Some u ↦ finish (with_item K queue (value_sent K u)) u (1 ∷ [])
+  | Some u ↦ finish p (with_item K queue (value_sent K u)) u (1 ∷ [])
 ]
 
 -- `receive`: the front item, whose space the first sender gets
-abbrev pub receive : State → ℕ → ℕ → Effect
-receive K queue limit = elim (items_of K queue) [
-  | [] ↦ held K Receive queue 0 limit
-  | item ∷ items ↦ answers (1 ∷ item ∷ []) (refilled (with_items K queue items) queue)
+abbrev pub receive : Program → State → ℕ → ℕ → Effect
+receive p K queue limit = elim (items_of K queue) [
+  | [] ↦ held p K Receive queue 0 limit
+  | item ∷ items ↦ answers (1 ∷ item ∷ []) (refilled p (with_items K queue items) queue)
 ]
 
 -- `take`: a count above 0 falls by one
-abbrev pub take : State → ℕ → ℕ → Effect
-take K semaphore limit = elim (count_of K semaphore) [
-  | zero ↦ held K Take semaphore 0 limit
+abbrev pub take : Program → State → ℕ → ℕ → Effect
+take p K semaphore limit = elim (count_of K semaphore) [
+  | zero ↦ held p K Take semaphore 0 limit
   | suc count ↦ answers (1 ∷ []) (with_count K semaphore count)
 ]
 
 -- `give`: the first taker is served, or else a count below the maximum rises by one
 abbrev pub give : Program → State → ℕ → Effect
 give p K semaphore = elim (first K Take semaphore) [
-  | Some u ↦ answers (1 ∷ []) (finish K u (1 ∷ []))
+  | Some u ↦ answers (1 ∷ []) (finish p K u (1 ∷ []))
   | None ↦
       if nat_lt (count_of K semaphore) (maximum_of p semaphore)
       then answers (1 ∷ []) (with_count K semaphore (count_of K semaphore + 1))

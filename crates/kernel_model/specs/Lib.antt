@@ -3,7 +3,6 @@ pub mod Names
 pub mod Dump
 pub mod Kernel
 pub mod Order
-pub mod Numbers
 pub mod Serve
 pub mod Calls
 pub mod Objects
@@ -14,3 +13,6 @@ pub mod Show
 pub mod Sound
 pub mod Placed
 pub mod Relived
+pub mod Effects
+pub mod Awaits
+pub mod Waking

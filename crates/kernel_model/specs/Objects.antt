@@ -2,7 +2,7 @@
 use Rattle.std.specs.Prelude.{ℕ, ◌+◌, ◌%◌, ◌==◌, nat_lt, nat_le, not, ◌&&◌, Bool, true, false, if◌then◌else◌, List, [], ◌∷◌, ◌++◌, length, map, fold, filter, find, replicate, Option, Some, None, slice_get, slice_set}
 use Rattle.kernel_model.specs.Visible.{Object}
 use Rattle.kernel_model.specs.Order.{inserted}
-use Rattle.kernel_model.specs.Numbers.{kind_number, fields_of}
+use Rattle.thread_tree.specs.Numbers.{kind_number, fields_of}
 use Rattle.thread_tree.specs.Program as program
 use Rattle.thread_tree.specs.Program.{Program}
 

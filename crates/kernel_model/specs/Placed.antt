@@ -1,13 +1,12 @@
 -- A local state whose things to do stand where the program has them, with the locals in scope that it says.
-use Rattle.std.specs.Prelude.{◌≡◌, ℕ, Bool, true, false, ⊤, List, [], ◌∷◌, ◌++◌, length, map, take, Contains, Option, Some, None}
+use Rattle.std.specs.Prelude.{◌≡◌, ℕ, Bool, true, false, ⊤, List, [], ◌∷◌, ◌++◌, length, take, Contains, Option, Some, None}
 use Rattle.std.specs.List.{AllByRecursion}
-use Rattle.thread_tree.specs.declared.local.Local.{Local}
 use Rattle.thread_tree.specs.declared.block.Block.{Block}
 use Rattle.thread_tree.specs.declared.block.Stmt.{Stmt, out-Stmt, para-Stmt}
 use Rattle.thread_tree.specs.Program.{Program}
 use Rattle.thread_tree.specs.LocalState.{Thing, Frame, LocalState, loop_block}
 use Rattle.thread_tree.specs.LocalState.Thing.{Do, End, Test, Turn}
-use Rattle.thread_tree.specs.Actions.{Spot, SpotsOf, SpotsIn, spots_of_layer, spots_in_layer, spots_in, declared_by, spots}
+use Rattle.thread_tree.specs.Actions.{Spot, spot_at, names_in, SpotsOf, SpotsIn, spots_of_layer, spots_in_layer, spots_in, declared_by, spots}
 
 -- the spots of a statement
 unfoldable pub spots_of : Stmt → SpotsOf
@@ -16,10 +15,6 @@ spots_of = para-Stmt SpotsOf SpotsIn spots_of_layer spots_in_layer
 -- these are spots of the program
 abbrev pub AreSpots : Program → List Spot → Type 0
 AreSpots p these = AllByRecursion (Contains (spots p)) these
-
--- a statement where it stands
-abbrev pub spot_at : Stmt → List ℕ → List Thing → Spot
-spot_at statement scope rest = record { statement = statement; scope = scope; rest = rest }
 
 -- the loop of a turn stands where the program has it, and so does what is in its block
 abbrev pub IsLoopAt : Program → Stmt → List ℕ → List Thing → Option Block → Type 0
@@ -40,13 +35,6 @@ StandAt p false scope (Test e block ∷ rest) =
 StandAt p true scope (Test e block ∷ rest) = StandAt p false scope rest
 StandAt p false scope (Turn s ∷ rest) = IsLoopAt p s scope rest (loop_block (out-Stmt s)) × StandAt p false scope rest
 StandAt p true scope (Turn s ∷ rest) = StandAt p false scope rest
-
--- the names of locals, and their values
-abbrev pub names_in : List Local → List ℕ
-names_in locals = map (λ local. local.name) locals
-
-abbrev pub values_of : List Local → List ℕ
-values_of locals = map (λ local. local.value) locals
 
 -- a thread's own frame, below all those of functions that it called
 abbrev pub own_frame : Frame → List Frame → Frame

@@ -7,7 +7,7 @@ use Rattle.kernel_model.specs.Kernel.{Activity, Thread, Row, State, thread_of, c
 use Rattle.kernel_model.specs.Kernel.Activity.{Ready, Delayed, Waiting}
 use Rattle.kernel_model.specs.Kernel.Row.{Free}
 use Rattle.kernel_model.specs.Order.{live_threads, chosen}
-use Rattle.kernel_model.specs.Numbers.{template_number}
+use Rattle.thread_tree.specs.Numbers.{template_number}
 use Rattle.kernel_model.specs.Serve.{settle, settled, finish, timed_out}
 use Rattle.kernel_model.specs.Serve.Fate.{Stops}
 use Rattle.kernel_model.specs.Calls.{birth_row, input}
@@ -42,12 +42,12 @@ arrived a thread = record thread { local = a.local; age = thread.age + a.moves }
 -- the kernel where a thread performs its action, if its records have room
 abbrev pub performed : Program → State → ℕ → Ahead → Thread → State
 performed p K t a thread = elim a.arrival [
-  | Finished ↦ settle t (Stops ordinary_end) K
-  | Watchdog ↦ settle t (Stops watchdog) K
+  | Finished ↦ settle p t (Stops ordinary_end) K
+  | Watchdog ↦ settle p t (Stops watchdog) K
   | AtAction statement ↦
-      if nat_lt record_room (thread.debt + need t a.local.top.locals statement)
-      then settle t (Stops no_record_room) K
-      else settled t (effect_of p K t a.local.top.locals statement)
+      if nat_lt record_room (thread.debt + need p t a.local.top.locals statement)
+      then settle p t (Stops no_record_room) K
+      else settled p t (effect_of p K t a.local.top.locals statement)
 ]
 
 -- the kernel after a thread's step: it runs ahead, and performs its action
@@ -63,21 +63,21 @@ step p K = elim (chosen K) [
 ]
 
 -- the results with which a tick ends what a thread does, if it does
-abbrev pub woken_by : ℕ → Activity → Option (List ℕ)
-woken_by tick Ready = None
-woken_by tick (Delayed wake) = if wake == tick then Some [] else None
-woken_by tick (Waiting wait) = if wait.until == tick then Some (timed_out wait.what) else None
+abbrev pub woken_by : Program → ℕ → Activity → Option (List ℕ)
+woken_by p tick Ready = None
+woken_by p tick (Delayed wake) = if wake == tick then Some [] else None
+woken_by p tick (Waiting wait) = if wait.until == tick then Some (timed_out p wait.what wait.target) else None
 
 -- the kernel where a thread is awake if the tick count has reached its tick
-abbrev pub woken : State → ℕ → State
-woken K t = elim (thread_of K t) [
+abbrev pub woken : Program → State → ℕ → State
+woken p K t = elim (thread_of K t) [
   | None ↦ K
-  | Some thread ↦ elim (woken_by K.ticks thread.activity) [ None ↦ K | Some results ↦ finish K t results ]
+  | Some thread ↦ elim (woken_by p K.ticks thread.activity) [ None ↦ K | Some results ↦ finish p K t results ]
 ]
 
 -- the kernel where all threads are awake whose tick it is, in order of number
-unfoldable pub all_woken : State → State
-all_woken K = fold woken K (range_with_len 0 row_count)
+unfoldable pub all_woken : Program → State → State
+all_woken p K = fold (woken p) K (range_with_len 0 row_count)
 
 -- whether a thread is ready and has this priority
 abbrev pub is_ready_at : ℕ → Thread → Bool
@@ -97,8 +97,8 @@ rotated K (Some t) = elim (thread_of K t) [
 ]
 
 -- the kernel after a tick: the tick count rises, threads wake, and who was chosen before goes behind its equals
-abbrev pub tick : State → State
-tick K = rotated (all_woken (record K { ticks = K.ticks + 1 })) (chosen K)
+abbrev pub tick : Program → State → State
+tick p K = rotated (all_woken p (record K { ticks = K.ticks + 1 })) (chosen K)
 
 -- the kernel with one event more counted
 abbrev pub counted : State → State
@@ -107,7 +107,7 @@ counted K = record K { events = K.events + 1 }
 -- one event
 abbrev pub one : Program → State → Event → State
 one p K Step = step p (counted K)
-one p K Tick = tick (counted K)
+one p K Tick = tick p (counted K)
 one p K (Input channel value) = input p (counted K) channel value
 
 -- the row of a thread that runs from the start, with its stamp

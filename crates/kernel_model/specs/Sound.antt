@@ -5,10 +5,10 @@ use Rattle.kernel_model.specs.declared.wait.TheConstants.{NEVER}
 use Rattle.kernel_model.specs.declared.what.What.{What}
 use Rattle.kernel_model.specs.declared.what.What.TheVariants.{Send, Receive, Take}
 use Rattle.kernel_model.specs.Visible.{Object}
-use Rattle.kernel_model.specs.Kernel.{Activity, Row, State}
+use Rattle.kernel_model.specs.Kernel.{Activity, Row, State, live_in}
 use Rattle.kernel_model.specs.Kernel.Activity.{Ready, Delayed, Waiting}
 use Rattle.kernel_model.specs.Kernel.Row.{Free, Ended, Live}
-use Rattle.kernel_model.specs.Numbers.{queue_number, semaphore_number, fields_of}
+use Rattle.thread_tree.specs.Numbers.{queue_number, semaphore_number, fields_of}
 use Rattle.kernel_model.specs.Objects.{end_of, first_place, end_place, static_objects}
 use Rattle.kernel_model.specs.Serve.{next_words}
 use Rattle.kernel_model.specs.Calls.{capacity_of, maximum_of, console_room}
@@ -42,11 +42,11 @@ awaited_by p (call.Take semaphore limit) = Some (Take, semaphore_number p semaph
 awaited_by p _ = None
 
 -- a delay is the call that comes next, its tick is to come, and the records have room for it
-pub record IsDelayed (ticks wake : ℕ) (local : LocalState) (debt : ℕ) : Type 0 where
+pub record IsDelayed (p : Program) (ticks wake : ℕ) (local : LocalState) (debt : ℕ) : Type 0 where
   pub call : option_map is_delay (next_call local) ≡ Some true
   pub later : ticks < wake
   pub comes : wake < NEVER
-  pub room : debt + next_words local ≤ record_room
+  pub room : debt + next_words p local ≤ record_room
 
 -- a wait lasts: the queue is full for a sender and empty for a receiver, and the count is 0 for a taker
 abbrev pub IsHeld : Program → List (List ℕ) → List ℕ → What → ℕ → Type 0
@@ -63,12 +63,12 @@ pub record IsWaiting (p : Program) (ticks : ℕ) (queues : List (List ℕ)) (cou
   pub call : option_and_then (awaited_by p) (next_call local) ≡ Some (wait.what, wait.target)
   pub later : IsToCome ticks wait.until
   pub held : IsHeld p queues counts wait.what wait.target
-  pub room : debt + next_words local ≤ record_room
+  pub room : debt + next_words p local ≤ record_room
 
 -- what a thread does fits the kernel
 abbrev pub IsDoing : Program → ℕ → List (List ℕ) → List ℕ → LocalState → ℕ → Activity → Type 0
 IsDoing p ticks queues counts local debt Ready = ⊤
-IsDoing p ticks queues counts local debt (Delayed wake) = IsDelayed ticks wake local debt
+IsDoing p ticks queues counts local debt (Delayed wake) = IsDelayed p ticks wake local debt
 IsDoing p ticks queues counts local debt (Waiting wait) = IsWaiting p ticks queues counts wait local debt
 
 -- a live thread, by the parts that this depends on
@@ -96,15 +96,15 @@ stamp_in Free = None
 stamp_in (Ended template priority code) = None
 stamp_in (Live thread) = listed thread.stamp thread.activity
 
--- the stamp is below the next one
+-- the stamp of a live thread, whatever it does, is below the next one
 abbrev pub IsPast : ℕ → Row → Type 0
-IsPast stamp row = IfSome (stamp_in row) (λ own. own < stamp)
+IsPast stamp row = IfSome (live_in row) (λ thread. thread.stamp < stamp)
 
 -- the stamps of two rows differ
 abbrev pub IsApart : Row → Row → Type 0
 IsApart a b = IfSome (stamp_in a) (λ s. IfSome (stamp_in b) (λ t. s ≢ t))
 
--- sixteen rows, each sound, with stamps that differ and are below the next one
+-- sixteen rows, each sound, with stamps below the next one, that differ in each list
 pub record AreSoundRows (p : Program) (ticks : ℕ) (queues : List (List ℕ)) (counts : List ℕ) (stamp : ℕ) (rows : List Row) : Type 0 where
   pub sixteen : length rows ≡ row_count
   pub each : All (IsSoundRow p ticks queues counts) rows

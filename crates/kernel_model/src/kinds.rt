@@ -1,34 +1,14 @@
 ghost use Rattle.std.specs.Prelude.{◌≡◌, ◌≤◌, IsSome, IfSome};
-ghost use Rattle.thread_tree.specs.Kinds.{action_of, kind_of_call, record_words_of};
+ghost use Rattle.thread_tree.specs.Program.{Program};
+ghost use Rattle.thread_tree.specs.Kinds.{action_of, record_words_of};
 
-use thread_tree::{Call, Stmt};
-
-// The kind of a call.
-fn kind_of_call(call: &Call) -> u32
-    ensures kind { result ≡ kind_of_call call.now }
-{
-    match call {
-        Call::Print(_) => 1,
-        Call::Spawn(..) => 2,
-        Call::Delete(_) => 3,
-        Call::Delay(_) => 4,
-        Call::Setprio(..) => 5,
-        Call::Getprio(_) => 6,
-        Call::Send(..) => 7,
-        Call::Receive(..) => 8,
-        Call::Take(..) => 9,
-        Call::Give(_) => 10,
-        Call::Now => 11,
-        Call::Yield => 12,
-        Call::Waiting(_) => 13,
-    }
-}
+use thread_tree::{Stmt, kind_of_call, result_count};
 
 /// The number of an action's kind, from 1 to 16. The statement is an action: a call, an atomic
 /// block, or a persistent loop, whose action is its turn.
 pub fn kind_of(stmt: &Stmt) -> u32
-    requires action { IsSome (action_of stmt.now) }
-    ensures kind { IfSome (action_of stmt.now) (λ action. result ≡ action.kind) }
+    requires action { (p : Program) × IsSome (action_of p stmt.now) }
+    ensures kind { (p : Program) → IfSome (action_of p stmt.now) (λ action. result ≡ action.kind) }
 {
     match stmt {
         Stmt::Call(_, call, _) => kind_of_call(call),
@@ -54,10 +34,6 @@ pub fn record_words(kind: u32, given: u32) -> u32
 {
     match kind {
         14 | 15 => 0,
-        4 | 12 => 1,
-        1 | 2 | 3 | 5 | 6 | 7 | 9 | 10 | 11 | 13 => 2,
-        8 => 3,
-        16 => 2 + given,
-        _ => unreachable!(),
+        _ => 1 + result_count(kind, given),
     }
 }

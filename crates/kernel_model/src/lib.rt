@@ -11,7 +11,7 @@ mod what;
 
 pub use event::Event;
 pub use kinds::{kind_of, record_words};
-pub use laws::{loops, order, places, replay, soundness};
+pub use laws::{acting, loops, open_calls, order, places, replay, soundness, stepping, waking};
 pub use row_state::RowState;
 pub use wait::{NEVER, Wait};
 pub use what::What;

@@ -25,6 +25,8 @@ blank_image = record {
   console = [];
   heap = 0 ∷ 0 ∷ 4094 ∷ [];
   live = [];
+  spare_header = [];
+  spare = [];
 }
 
 -- nothing runs
@@ -80,8 +82,8 @@ Waiters =
           ∷ record blank_row { state = 2; priority = 7; wake = 85 }
           ∷ waiting_row 1 7 85 0 3 43
           ∷ []);
-      queues = record { count = 3; front = 2; senders_head = 0; receivers_head = 0; slots = 11 ∷ 12 ∷ 13 ∷ 14 ∷ [] } ∷ [];
-      semaphores = record { count = 0; takers_head = 0 } ∷ [];
+      queues = record { count = 3; front = 2; senders_head = 0; receivers_head = 0; slots = 11 ∷ 12 ∷ 13 ∷ 14 ∷ []; padding = [] } ∷ [];
+      semaphores = record { count = 0; takers_head = 0; third = 0; fourth = 0 } ∷ [];
     })
     ≡ record idle_kernel {
       ticks = 80;

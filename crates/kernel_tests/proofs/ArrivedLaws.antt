@@ -16,13 +16,13 @@ use Rattle.kernel_model.proofs.Callers.{ahead-before}
 use Rattle.replay_list.specs.Finished.{IsGiven}
 
 -- the action of the number that is told comes next
-pub arrived_at : (p : Program) (s now : LocalState) (number : ℕ) → IsNext p (ahead p s).arrival (next.Action number) → now ≡ (ahead p s).local → IsSomeAnd (slice_get (actions p) number) (λ statement. next_action now ≡ action_of statement)
+pub arrived_at : (p : Program) (s now : LocalState) (number : ℕ) → IsNext p (ahead p s).arrival (next.Action number) → now ≡ (ahead p s).local → IsSomeAnd (slice_get (actions p) number) (λ statement. next_action p now ≡ action_of p statement)
 arrived_at p s now number told same = go (ahead p s).arrival refl told where
-  go : (a : Arrival) → (ahead p s).arrival ≡ a → IsNext p a (next.Action number) → IsSomeAnd (slice_get (actions p) number) (λ statement. next_action now ≡ action_of statement)
+  go : (a : Arrival) → (ahead p s).arrival ≡ a → IsNext p a (next.Action number) → IsSomeAnd (slice_get (actions p) number) (λ statement. next_action p now ≡ action_of p statement)
   go (AtAction statement) is here =
       let comes : next_statement now.top.todo ≡ Some statement = ap (λ (local : LocalState). next_statement local.top.todo) same ∙ ahead-before p s statement is in
-      let acts : next_action now ≡ action_of statement = ap (λ (found : Option Stmt). elim found as (λ _. Option Action) [ None ↦ None | Some s ↦ action_of s ]) comes in
-      subst (λ (o : Option Stmt). IsSomeAnd o (λ s. next_action now ≡ action_of s)) (sym here) acts
+      let acts : next_action p now ≡ action_of p statement = ap (λ (found : Option Stmt). elim found as (λ _. Option Action) [ None ↦ None | Some s ↦ action_of p s ]) comes in
+      subst (λ (o : Option Stmt). IsSomeAnd o (λ s. next_action p now ≡ action_of p s)) (sym here) acts
   go Finished is here = absurd here
   go Watchdog is here = absurd here
 

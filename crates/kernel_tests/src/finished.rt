@@ -70,7 +70,7 @@ fn gives<N: Nv>(rt: &impl Abort, tx: &mut Open<N>, program: &Checked, contexts: 
 // Finishes the receive at which this context of thread 2 stands.
 fn received<N: Nv>(rt: &impl Abort, tx: &mut Open<N>, program: &Checked, ctx: Ctx, number: u32)
     requires context { IsContext (program_of program.now) ctx }
-    requires stands { IsSomeAnd (slice_get (actions (program_of program.now)) number) (λ s. next_action (local_of (program_of program.now) ctx) ≡ action_of s) }
+    requires stands { IsSomeAnd (slice_get (actions (program_of program.now)) number) (λ s. next_action (program_of program.now) (local_of (program_of program.now) ctx) ≡ action_of (program_of program.now) s) }
 {
     let mut contexts = Contexts::none();
     contexts.set(2, Some(ctx));

@@ -85,9 +85,11 @@ fn is_within(cell: Cell) -> bool
     ensures within { result ≡ is_cell cell }
 {
     match cell {
-        Cell::Header(at) => 0 < at && at < 64 && at != 4,
+        Cell::Header(at) => 0 < at && at < 16 && at != 4,
+        Cell::SpareHeader(i) => i < 48,
         Cell::QueueWord(queue, word) => queue < 16 && word < 4,
         Cell::QueueItem(queue, slot) => queue < 16 && slot < 48,
+        Cell::QueueSpare(queue, i) => queue < 16 && i < 12,
         Cell::SemaphoreWord(semaphore, word) => semaphore < 16 && word < 4,
         Cell::RowWord(thread, word) => thread < 16 && word < 16,
         Cell::StartValue(thread, value) => thread < 16 && value < 16,
@@ -95,6 +97,7 @@ fn is_within(cell: Cell) -> bool
         Cell::ConsoleWord(word) => word < 2_048,
         Cell::HeapWord(place) => place < 4_096,
         Cell::LiveWord(word) => word < 64,
+        Cell::Spare(i) => i < 1_856,
     }
 }
 

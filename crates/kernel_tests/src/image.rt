@@ -83,10 +83,13 @@ fn places_of_the_layout(rt: HostRuntime) {
     assert_eq!(rt; address(Cell::RecordWord(0, 0)), 1_184);
     assert_eq!(rt; address(Cell::LiveWord(63)), 11_967);
     for (at, cell) in [
+        (16, Cell::SpareHeader(0)),
         (199, Cell::QueueItem(2, 3)),
+        (1_087, Cell::QueueSpare(15, 11)),
         (1_456, Cell::StartValue(1, 0)),
         (7_807, Cell::ConsoleWord(2_047)),
         (7_808, Cell::HeapWord(0)),
+        (16_383, Cell::Spare(1_855)),
     ] {
         assert_eq!(rt; cell_of(at), cell, "at {at}");
     }

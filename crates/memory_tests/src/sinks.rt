@@ -30,10 +30,11 @@ fn standard_output(rt: HostRuntime) {
     assert_eq!(rt; sink.put(b"written\n"), Ok(()));
 }
 
-// Takes so many bytes in all, and then nothing.
+// Takes so many bytes in all, and then nothing. It counts the calls that flush it.
 #[derive(Drop)]
 struct Full {
     room: usize,
+    flushes: u32,
 }
 
 impl Write for Full {
@@ -44,15 +45,20 @@ impl Write for Full {
     }
 
     fn flush(&mut self) -> io::Result<()> {
+        self.flushes = self.flushes.saturating_add(1);
         Ok(())
     }
 }
 
-// A write that takes nothing of what is left has failed.
+// A piece that is taken is flushed, and a write that takes nothing of what is left has failed.
 #[test]
 fn a_write_takes_nothing(rt: HostRuntime) {
-    let mut full = Full { room: 3 };
+    let mut full = Full {
+        room: 3,
+        flushes: 0,
+    };
     assert_eq!(rt; write_whole(&mut full, b"ab"), Ok(()));
+    assert_eq!(rt; full.flushes, 1);
     assert_eq!(rt; write_whole(&mut full, b"cd"), Err(SinkFault));
-    assert_eq!(rt; full.room, 0);
+    assert_eq!(rt; (full.room, full.flushes), (0, 1));
 }

@@ -5,3 +5,4 @@ pub mod Failing
 pub mod SinkState
 pub mod FilesState
 pub mod DiskCounts
+pub mod OutCounts

@@ -79,10 +79,13 @@ impl Sink for MemSink {
 
     ghost faults = { λ sink. sink.faults };
 
+    ghost pieces = { λ sink. sink.calls };
+
     #[tactic(auto, using(crate::proofs::WrittenLaws::written), unfolding(crate::specs::Written::put_to))]
     fn put(&mut self, piece: &[u8]) -> Result<(), SinkFault>
         ensures puts { Puts result (Some self.old.bytes) (Some self.new.bytes) piece.now }
         ensures cause { HasCause self.old.faults self.new.faults result }
+        ensures given { self.new.calls ≡ count_after 1 self.old.calls }
         ensures refused { IsErr result ↔ IsTrue (is_refused self.old piece.now) }
         ensures taken { OnOk result (self.new ≡ record self.old {
           bytes = self.old.bytes ++ piece.now;

@@ -12,22 +12,27 @@ use std::marker::Model;
 pub struct OutSink<R> {
     runtime: R,
     faults: u64,
+    pieces: u64,
 }
 
 impl<R> Model for OutSink<R> {
-    ghost use Rattle.std.specs.Prelude.{ℕ};
+    ghost use Rattle.outer_world.specs.OutCounts.{OutCounts};
 
-    ghost Value = { ℕ };
+    ghost Value = { OutCounts };
 
-    ghost view = { λ sink. sink.faults };
+    ghost view = { λ sink. record { faults = sink.faults; pieces = sink.pieces } };
 }
 
 impl<R: Print> OutSink<R> {
     /// The standard output of this runtime.
     pub fn new(runtime: R) -> OutSink<R>
-        ensures made { result ≡ 0 }
+        ensures made { result ≡ record { faults = 0; pieces = 0 } }
     {
-        OutSink { runtime, faults: 0 }
+        OutSink {
+            runtime,
+            faults: 0,
+            pieces: 0,
+        }
     }
 }
 
@@ -56,10 +61,13 @@ pub fn write_whole<W: Write>(out: &mut W, piece: &[u8]) -> Result<(), SinkFault>
 impl<R: Print> Sink for OutSink<R> {
     ghost bytes = { λ _. None };
 
-    ghost faults = { λ sink. sink };
+    ghost faults = { λ sink. sink.faults };
+
+    ghost pieces = { λ sink. sink.pieces };
 
     #[tactic(auto, using(crate::proofs::WrittenLaws::written), unfolding(crate::specs::Written::put_to))]
     fn put(&mut self, piece: &[u8]) -> Result<(), SinkFault> {
+        self.pieces = self.pieces.saturating_add(1);
         match write_whole(&mut io::writer(&self.runtime), piece) {
             Ok(()) => Ok(()),
             Err(fault) => {

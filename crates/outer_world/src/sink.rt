@@ -1,6 +1,6 @@
 //! A sink for text.
-ghost use Rattle.std.specs.Prelude.{ℕ, List, Option};
-ghost use Rattle.outer_world.specs.Causes.{HasCause};
+ghost use Rattle.std.specs.Prelude.{◌≡◌, ℕ, List, Option};
+ghost use Rattle.outer_world.specs.Causes.{count_after, HasCause};
 ghost use Rattle.outer_world.specs.Written.{Puts};
 
 use crate::fault::SinkFault;
@@ -13,6 +13,9 @@ pub trait Sink {
     // How many pieces failed so far.
     ghost faults: { Self → ℕ };
 
+    // How many pieces it was given so far, those that failed too; the count stops at the last value of 64 bits.
+    ghost pieces: { Self → ℕ };
+
     /// Takes the whole piece, behind what was taken before.
     ///
     /// # Errors
@@ -20,5 +23,6 @@ pub trait Sink {
     /// `SinkFault` where not all of the piece was taken. A prefix of it was taken then.
     fn put(&mut self, piece: &[u8]) -> Result<(), SinkFault>
         ensures puts { Puts result (bytes self.old) (bytes self.new) piece.now }
-        ensures cause { HasCause (faults self.old) (faults self.new) result };
+        ensures cause { HasCause (faults self.old) (faults self.new) result }
+        ensures given { pieces self.new ≡ count_after 1 (pieces self.old) };
 }

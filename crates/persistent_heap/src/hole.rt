@@ -1,8 +1,10 @@
 // A hole of the heap.
 
-/// A run of free places: the place of the first one, and how many there are. Both are even.
+/// A hole of the heap: a run of free places (docs/HEAP.md).
 #[derive(Clone, Copy)]
-pub(crate) struct Hole {
-    pub(crate) place: u32,
-    pub(crate) size: u32,
+pub struct Hole {
+    /// The place of the first one, which is even.
+    pub place: u32,
+    /// How many there are, an even number.
+    pub size: u32,
 }

@@ -11,4 +11,5 @@ mod walk;
 mod words;
 
 pub use giving_back::give_back;
+pub use hole::Hole;
 pub use taking::take;

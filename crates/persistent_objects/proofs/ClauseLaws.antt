@@ -3,19 +3,19 @@ use Rattle.std.proofs.Common.{◌≡◌, ℕ, ◌+◌, ◌%◌, ◌<◌, ◌≤�
 use Rattle.std.specs.Prelude.{is_some, Option, Some}
 use Rattle.std.proofs.lemmas.List.Elements.{recursion_from_All}
 use Rattle.kernel_model.specs.Visible.{Object}
-use Rattle.kernel_model.specs.Numbers.{fields_of}
+use Rattle.thread_tree.specs.Numbers.{fields_of}
 use Rattle.kernel_model.specs.Objects.{object_of, first_place, with_field}
 use Rattle.kernel_model.specs.Sound.{AreSoundObjects}
 use Rattle.kernel_image.specs.Shown.{objects_in}
 use Rattle.thread_tree.specs.Program.{Program}
-use Rattle.persistent_objects.specs.Holes.{AreHoles}
+use Rattle.persistent_objects.specs.Layout.{IsLaidOut}
 use Rattle.persistent_objects.specs.Objects.{value_at}
 use Rattle.kernel_image.specs.Decoded.{listed}
 use Rattle.std.proofs.Math.ListN.{get_or-eq_default}
 use Rattle.persistent_objects.proofs.Listed.{listed-at, length-listed}
 use Rattle.persistent_objects.proofs.FoundLaws.{IsThere, there, begun}
 use Rattle.persistent_objects.proofs.FieldLaws.{field-sound}
-use Rattle.persistent_objects.proofs.HoleLaws.{holes-inside, holes-with}
+use Rattle.persistent_objects.proofs.LayoutLaws.{holes-inside, holes-with, headers-inside, headers-with}
 use Rattle.persistent_objects.proofs.StoreLaws.{width, laid-end, in_some, objects_at-set}
 
 -- a live object of this type, among sound objects, and one of its fields
@@ -64,12 +64,19 @@ field_sound p heap live place kind field value long h =
     subst (λ (os : List Object). AreSoundObjects p os) (sym (field_stored p heap live place kind field value long h))
     (field-sound place field value p (objects_in p heap live) h.sound)
 
--- the holes stay between them
-pub field_holes : (p : Program) (heap live : List ℕ) (place kind field value : ℕ) → length heap ≡ 4096 → IsField p heap live place kind field → (link : ℕ) →
-    AreHoles heap link first_place (objects_in p heap live) → AreHoles (slice_set heap (place + 1 + field) value) link first_place (objects_in p (slice_set heap (place + 1 + field) value) live)
-field_holes p heap live place kind field value long h link holes =
-    subst (λ (os : List Object). AreHoles (slice_set heap (place + 1 + field) value) link first_place os) (sym (field_stored p heap live place kind field value long h))
-    (holes-with (slice_set heap (place + 1 + field) value) place field value (objects_in p heap live) first_place link
-    (holes-inside heap (place + 1 + field) value (objects_in p heap live) first_place link refl
-    (recursion_from_All (λ (o : Object). o.place % 2 ≡ 0) (objects_in p heap live) h.sound.even)
-    (in_some p heap place field (begun live) h.object.stands h.within) h.sound.laid holes))
+-- the holes stay between them, and the headers where they are
+pub field_layout : (p : Program) (heap live : List ℕ) (place kind field value : ℕ) → length heap ≡ 4096 → IsField p heap live place kind field → (link : ℕ) →
+    IsLaidOut heap link first_place (objects_in p heap live) → IsLaidOut (slice_set heap (place + 1 + field) value) link first_place (objects_in p (slice_set heap (place + 1 + field) value) live)
+field_layout p heap live place kind field value long h link layout =
+    let inside = in_some p heap place field (begun live) h.object.stands h.within in
+    subst (λ (os : List Object). IsLaidOut (slice_set heap (place + 1 + field) value) link first_place os) (sym (field_stored p heap live place kind field value long h))
+    (record {
+      holes =
+          holes-with (slice_set heap (place + 1 + field) value) place field value (objects_in p heap live) first_place link
+          (holes-inside heap (place + 1 + field) value (objects_in p heap live) first_place link refl
+          (recursion_from_All (λ (o : Object). o.place % 2 ≡ 0) (objects_in p heap live) h.sound.even)
+          inside h.sound.laid layout.holes);
+      headers =
+          headers-with (slice_set heap (place + 1 + field) value) place field value (objects_in p heap live)
+          (headers-inside heap (place + 1 + field) value (objects_in p heap live) first_place inside h.sound.laid layout.headers);
+    })

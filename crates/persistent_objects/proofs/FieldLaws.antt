@@ -3,9 +3,10 @@ use Rattle.std.proofs.Common.{◌≡◌, ℕ, ◌+◌, ◌%◌, ◌<◌, ◌≤�
 use Rattle.std.proofs.lemmas.List.Elements.{All-map, All-weaker}
 use Rattle.std.proofs.lemmas.Bool.{cond_both}
 use Rattle.kernel_model.specs.Visible.{Object}
-use Rattle.kernel_model.specs.Numbers.{fields_of}
+use Rattle.thread_tree.specs.Numbers.{fields_of}
 use Rattle.kernel_model.specs.Objects.{block_size, end_of, first_place, object_with, with_field}
 use Rattle.kernel_model.specs.Sound.{IsLaid, HasKind, place_and_kind, statics_in, AreSoundObjects}
+use Rattle.kernel_image.specs.Agree.{header_of}
 use Rattle.thread_tree.specs.Program.{Program}
 
 module _ (place field value : ℕ) where
@@ -23,6 +24,9 @@ module _ (place field value : ℕ) where
 
   with-length : (o : Object) → length (object_with place field value o).values ≡ length o.values
   with-length o = by_place (λ x. length x.values) o (length-set o.values field value)
+
+  pub with-header : (o : Object) → header_of (object_with place field value o) ≡ header_of o
+  with-header o = by_place header_of o refl
 
   pub with-end : (o : Object) → end_of (object_with place field value o) ≡ end_of o
   with-end o = by_place end_of o (ap (λ n. o.place + block_size n) (length-set o.values field value))

@@ -2,7 +2,7 @@ mod ClauseLaws
 mod FieldLaws
 mod FoundLaws
 mod Given
-mod HoleLaws
+mod LayoutLaws
 mod ImageLaws
 mod LawSets
 mod Listed

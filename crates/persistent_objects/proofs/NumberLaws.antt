@@ -12,7 +12,7 @@ use Rattle.thread_tree.specs.declared.tree.Tree.{Tree}
 use Rattle.thread_tree.specs.Program as program
 use Rattle.thread_tree.specs.Program.{Kind, program_of, sorted, names_of}
 use Rattle.thread_tree.specs.Limits.{IsWithinLimits}
-use Rattle.kernel_model.specs.Numbers.{object_number, kind_number, field_number, fields_of}
+use Rattle.thread_tree.specs.Numbers.{object_number, kind_number, field_number, fields_of}
 use Rattle.kernel_image.specs.Declarations.{kind_in}
 use Rattle.persistent_objects.specs.declared.what.What.TheVariants.{Kinds, Objects, ObjectKinds}
 use Rattle.persistent_objects.specs.NamesIn.{names_in, is_name, kind_fields}

@@ -7,7 +7,7 @@ use Rattle.std.proofs.lemmas.List.{length-replicate, append-nil}
 use Rattle.std.proofs.lemmas.List.Elements.{recursion_from_All}
 use Rattle.std.proofs.lemmas.Option.{get_or_from_slice_get}
 use Rattle.kernel_model.specs.Visible.{Object}
-use Rattle.kernel_model.specs.Numbers.{kind_number, fields_of}
+use Rattle.thread_tree.specs.Numbers.{kind_number, fields_of}
 use Rattle.kernel_model.specs.Objects.{block_size, end_of, least_from, least, place_for, blank_object, with_static, static_objects}
 use Rattle.thread_tree.specs.Program as program
 use Rattle.thread_tree.specs.Program.{Program}

@@ -4,7 +4,7 @@ use Rattle.std.proofs.lemmas.List.{length-map}
 use Rattle.std.proofs.lemmas.Option.{unwrap_or-slice_get}
 use Rattle.std.specs.Prelude.{slice_get, slice_index_or, unwrap_or, Option, Some, None}
 use Rattle.kernel_model.specs.Visible.{Object}
-use Rattle.kernel_model.specs.Numbers.{kind_number, fields_of}
+use Rattle.thread_tree.specs.Numbers.{kind_number, fields_of}
 use Rattle.kernel_model.specs.Objects.{block_size, static_objects}
 use Rattle.thread_tree.specs.declared.tree.Decl.{Decl}
 use Rattle.thread_tree.specs.declared.tree.Tree.{Tree}

@@ -3,7 +3,7 @@ use Rattle.std.proofs.Common.{◌≡◌, ◌≢◌, inl, inr, ℕ, ◌+◌, ◌-
 use Rattle.std.proofs.lemmas.Bool.Decides.{nat_tests}
 use Rattle.std.specs.Prelude.{if◌then◌else◌, nat_le}
 use Rattle.kernel_model.specs.Visible.{Object}
-use Rattle.kernel_model.specs.Numbers.{fields_of}
+use Rattle.thread_tree.specs.Numbers.{fields_of}
 use Rattle.kernel_model.specs.Objects.{block_size, end_of, end_place, with_field, object_with}
 use Rattle.kernel_model.specs.Sound.{IsLaid}
 use Rattle.kernel_image.specs.Decoded.{listed}
@@ -11,7 +11,7 @@ use Rattle.kernel_image.specs.Shown.{object_at, static_mark}
 use Rattle.thread_tree.specs.Program.{Program}
 use Rattle.persistent_objects.proofs.Listed.{by_test, listed-set, listed-same, length-listed}
 use Rattle.persistent_objects.proofs.FoundLaws.{is_in, kind_at, objects_at}
-use Rattle.persistent_objects.proofs.HoleLaws.{InSome}
+use Rattle.persistent_objects.proofs.LayoutLaws.{InSome}
 
 -- how many fields the object has whose header stands at a place
 abbrev pub width : Program → List ℕ → ℕ → ℕ
@@ -89,7 +89,7 @@ module _ (p : Program) (heap : List ℕ) (place : ℕ) where
   in_some field (q ∷ qs) inside low = by_test (q == place) _
       (λ same.
       let here : q ≡ place = grind (arith, nat_tests) in
-      inl (subst (λ (n : ℕ). (n ≤ place + 1 + field) × (place + 1 + field < end_of (object_at p heap n))) (sym here)
+      inl (subst (λ (n : ℕ). (n < place + 1 + field) × (place + 1 + field < end_of (object_at p heap n))) (sym here)
       (omega arith, let end = end_at p heap place in omega (arith, low, end))))
       (λ other. inr (in_some field qs (first_of q qs other inside) low))
 

@@ -1,4 +1,4 @@
 pub mod NamesIn
-pub mod Holes
+pub mod Layout
 pub mod Objects
 pub mod Stops

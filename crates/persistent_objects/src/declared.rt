@@ -2,7 +2,7 @@
 ghost use Rattle.std.specs.Prelude.{◌≡◌, ◌≤◌, length, filter_map, slice_get, option_map, option_copied};
 ghost use Rattle.std.specs.List.{position_or_len};
 ghost use Rattle.thread_tree.specs.Program.{program_of, names_of};
-ghost use Rattle.kernel_model.specs.Numbers.{object_number, kind_number, field_number, fields_of};
+ghost use Rattle.thread_tree.specs.Numbers.{object_number, kind_number, field_number, fields_of};
 ghost use Rattle.kernel_image.specs.Declarations.{kind_in};
 ghost use Rattle.persistent_objects.specs.NamesIn.{name_in, names_in, is_name, kind_fields};
 

@@ -1,7 +1,7 @@
 // The static objects of a program, which lie one after another from place 2 on.
 ghost use Rattle.std.specs.Prelude.{◌≡◌, ◌≤◌, length, slice_index_or};
 ghost use Rattle.thread_tree.specs.Program.{program_of};
-ghost use Rattle.kernel_model.specs.Numbers.{fields_of};
+ghost use Rattle.thread_tree.specs.Numbers.{fields_of};
 ghost use Rattle.kernel_model.specs.Objects.{block_size, static_objects};
 ghost use Rattle.persistent_objects.specs.NamesIn.{no_object};
 

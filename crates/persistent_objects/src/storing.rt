@@ -4,11 +4,11 @@ ghost use Rattle.nv_memory.specs.Budget.{IsShort};
 ghost use Rattle.undo_journal.specs.Undo.{room_of};
 ghost use Rattle.undo_journal.specs.Lending.{IsLent, IsWithin};
 ghost use Rattle.thread_tree.specs.Program.{program_of};
-ghost use Rattle.kernel_model.specs.Numbers.{fields_of};
+ghost use Rattle.thread_tree.specs.Numbers.{fields_of};
 ghost use Rattle.kernel_model.specs.Objects.{object_of, first_place, with_field};
 ghost use Rattle.kernel_model.specs.Sound.{AreSoundObjects};
 ghost use Rattle.kernel_image.specs.Decoded.{image_in};
-ghost use Rattle.persistent_objects.specs.Holes.{KeepsHoles};
+ghost use Rattle.persistent_objects.specs.Layout.{KeepsLayout};
 ghost use Rattle.persistent_objects.specs.Objects.{objects_of};
 ghost use Rattle.persistent_objects.specs.Stops.{is_found, OnBad, OnCut};
 
@@ -59,7 +59,7 @@ pub fn store<N: Nv>(
     // One word of the heap has changed.
     ensures heap { OnOk result (image_in (N.words tx.new) ≡ record (image_in (N.words tx.old)) { heap = slice_set (image_in (N.words tx.old)).heap (place + 1 + field) value }) }
     ensures sound { OnOk result (AreSoundObjects (program_of program.now) (objects_of (program_of program.now) (image_in (N.words tx.new)))) }
-    ensures holes { OnOk result (KeepsHoles (program_of program.now) (image_in (N.words tx.old)) (image_in (N.words tx.new))) }
+    ensures layout { OnOk result (KeepsLayout (program_of program.now) (image_in (N.words tx.old)) (image_in (N.words tx.new))) }
     ensures cut { OnCut result (IsShort (N.left tx.old) 4) }
     ensures dark { OnCut result (N.left tx.new ≡ Some 0) }
     ensures lent { IsLent N.Nv tx.old tx.new }

@@ -1,4 +1,4 @@
--- The best row of an image that stands for the rows of a sound kernel is the thread that the kernel chooses.
+-- The best row of an image that stands for well-formed rows is the thread that the kernel chooses.
 use Rattle.std.proofs.Common.{◌≡◌, ◌≢◌, ℕ, zero, suc, ◌<◌, Bool, true, false, List, [], ◌∷◌, length, Option, Some, None, refl, sym, subst, ◌∙◌, ap, ⊎_elim, inl, inr, ◌⊎◌, arith, ltb, ◌==◌, ◌&&◌, eq-eqb, lt-ltb, true≢false}
 use Rattle.std.specs.Prelude.{IfSome, slice_get, slice_index_or}
 use Rattle.std.proofs.lemmas.Bool.{cases_eq, cases_lt, or_left, or_right, and_from}
@@ -12,8 +12,12 @@ use Rattle.kernel_model.specs.Order.{is_more_urgent, line_of, chosen}
 use Rattle.kernel_model.specs.Sound.{IsSound, IsApart, listed}
 use Rattle.kernel_image.specs.Agree.{Does, IsThread, Agrees, Both}
 use Rattle.kernel_image.specs.Decoded.{Decoded, RowWords, row_at, blank_row}
-use Rattle.ready_delay_lists.specs.Best.{IsFirst, IsBest}
+use Rattle.ready_delay_lists.specs.Best.{AreFormed, IsFirst, IsBest}
 use Rattle.ready_delay_lists.proofs.BestLaws.{IsNotBefore, not_before}
+
+-- the rows of a sound kernel are well formed
+pub sound_formed : (p : Program) (K : State) → IsSound p K → AreFormed K.rows
+sound_formed p K sound = record { sixteen = sound.rows.sixteen; apart = sound.rows.apart }
 
 -- two lists element by element, at a place
 Both-at : {X Y : Type 0} (R : X → Y → Type 0) (xs : List X) (ys : List Y) (i : ℕ) (d : X) (e : Y) → Both R xs ys → i < length ys → R (slice_index_or xs i d) (slice_index_or ys i e)
@@ -79,16 +83,16 @@ Passes = (test : Thread → Bool) (K : State) (t : ℕ) → slice_get (line_of t
 abbrev pub First : Type 0
 First = (test : Thread → Bool) (K : State) (t : ℕ) (thread : Thread) → thread_of K t ≡ Some thread → test thread ≡ true → ((u : ℕ) (other : Thread) → thread_of K u ≡ Some other → test other ≡ true → t ≢ u → is_more_urgent (t, thread) (u, other) ≡ true) → slice_get (line_of test K.rows) 0 ≡ Some t
 
-module _ (p : Program) (K : State) (d : Decoded) (sound : IsSound p K) (both : Both Agrees d.rows K.rows) where
+module _ (K : State) (d : Decoded) (formed : AreFormed K.rows) (both : Both Agrees d.rows K.rows) where
   -- a live thread has one of the sixteen rows
   within : (t : ℕ) (thread : Thread) → thread_of K t ≡ Some thread → t < 16
-  within t thread e = ⊎_elim (λ l. omega (arith, sound.rows.sixteen, l)) (λ past.
+  within t thread e = ⊎_elim (λ l. omega (arith, formed.sixteen, l)) (λ past.
       let row = get_or_past K.rows t Free past in
       let free : live_in Free ≡ Some thread = ap live_in (sym row) ∙ e in absurd (cc)) (cases_lt t (length K.rows))
 
   -- its row stands for it
   agrees : (t : ℕ) → t < 16 → Agrees (row_at d t) (slice_index_or K.rows t Free)
-  agrees t l = Both-at Agrees d.rows K.rows t blank_row Free both (omega (arith, sound.rows.sixteen, l))
+  agrees t l = Both-at Agrees d.rows K.rows t blank_row Free both (omega (arith, formed.sixteen, l))
 
   ready_at : (t : ℕ) (thread : Thread) → thread_of K t ≡ Some thread → is_ready thread ≡ true → IsReadyThread (row_at d t) (slice_index_or K.rows t Free) thread
   ready_at t thread e ready = ready_row (row_at d t) (slice_index_or K.rows t Free) thread (agrees t (within t thread e)) e ready
@@ -96,8 +100,8 @@ module _ (p : Program) (K : State) (d : Decoded) (sound : IsSound p K) (both : B
   -- the stamps of two of them differ
   apart : (t u : ℕ) → t ≢ u → t < 16 → u < 16 → IsApart (slice_index_or K.rows t Free) (slice_index_or K.rows u Free) ⊎ IsApart (slice_index_or K.rows u Free) (slice_index_or K.rows t Free)
   apart t u ne first second = ⊎_elim
-      (λ l. inl (sound.rows.apart t u Free l (omega (arith, sound.rows.sixteen))))
-      (λ le. inr (sound.rows.apart u t Free (let f : u ≢ t = λ e. ne (sym e) in omega arith) (omega (arith, sound.rows.sixteen))))
+      (λ l. inl (formed.apart t u Free l (omega (arith, formed.sixteen))))
+      (λ le. inr (formed.apart u t Free (let f : u ≢ t = λ e. ne (sym e) in omega arith) (omega (arith, formed.sixteen))))
       (cases_lt t u)
 
   stamps : (t u : ℕ) (thread other : Thread) → t ≢ u → t < 16 → u < 16 → IsReadyThread (row_at d t) (slice_index_or K.rows t Free) thread → IsReadyThread (row_at d u) (slice_index_or K.rows u Free) other → thread.stamp ≢ other.stamp

@@ -1,3 +1,6 @@
+pub mod Callers
 mod Agreeing
 mod BestLaws
 mod LawSets
+mod LinkLaws
+mod UnlistedLaws

@@ -1,7 +1,15 @@
 -- The best of the ready rows of an image.
-use Rattle.std.specs.Prelude.{◌≡◌, ◌≢◌, ℕ, ◌<◌, Bool, false, Option, Some, None}
+use Rattle.std.specs.Prelude.{◌≡◌, ◌≢◌, ℕ, ◌<◌, Bool, false, List, length, Option, Some, None, AllPairs}
+use Rattle.kernel_model.specs.Kernel.{Row}
+use Rattle.kernel_model.specs.Run.{row_count}
+use Rattle.kernel_model.specs.Sound.{IsApart}
 use Rattle.kernel_image.specs.Decoded.{Decoded, row_at}
 use Rattle.kernel_image.specs.Shown.{is_more_urgent}
+
+-- well-formed rows of a kernel, sound or not: sixteen, whose stamps differ in each list
+pub record AreFormed (rows : List Row) : Type 0 where
+  pub sixteen : length rows ≡ row_count
+  pub apart : AllPairs IsApart rows
 
 -- whether the row of a thread is ready
 abbrev pub IsReady : Decoded → ℕ → Type 0

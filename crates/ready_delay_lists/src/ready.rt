@@ -1,12 +1,10 @@
 // The ready threads.
 ghost use Rattle.std.specs.Prelude.{◌≡◌, ◌+◌, ◌<◌, ◌≤◌, ◌↔◌, IsTrue, IfSome};
-ghost use Rattle.thread_tree.specs.Program.{Program};
 ghost use Rattle.kernel_model.specs.Kernel.{State};
 ghost use Rattle.kernel_model.specs.Order.{chosen};
-ghost use Rattle.kernel_model.specs.Sound.{IsSound};
 ghost use Rattle.kernel_image.specs.Agree.{Agrees, Both};
 ghost use Rattle.kernel_image.specs.Decoded.{image_in, row_at};
-ghost use Rattle.ready_delay_lists.specs.Best.{IsReady, IsBest, comes_before};
+ghost use Rattle.ready_delay_lists.specs.Best.{AreFormed, IsReady, IsBest, comes_before};
 
 use kernel_image::{Cell, load};
 use kernel_model::order;
@@ -60,10 +58,11 @@ fn best_with<W: Words>(words: &W, best: Option<u32>, thread: u32) -> Option<u32>
 }
 
 /// The ready thread that a step runs: the one of the greatest priority, and among equals the one that stands first in
-/// its ready list, which has the least stamp. `None` exactly where nobody is ready.
+/// its ready list, which has the least stamp. `None` exactly where nobody is ready. It answers so for any sixteen rows whose
+/// stamps differ in each list, of a sound kernel or not.
 #[tactic(auto, using(crate::proofs::LawSets::best_laws))]
 pub fn chosen<W: Words>(words: &W) -> Option<u32>
-    ensures chosen { (p : Program) (K : State) → IsSound p K → Both Agrees (image_in (W.present words.now)).rows K.rows → result ≡ chosen K }
+    ensures chosen { (K : State) → AreFormed K.rows → Both Agrees (image_in (W.present words.now)).rows K.rows → result ≡ chosen K }
     ensures thread { IfSome result (λ t. t < 16) }
     ensures ready { IfSome result (λ t. (row_at (image_in (W.present words.now)) t).state ≡ 1) }
 {

@@ -2,6 +2,7 @@
 pub use Rattle.replay_list.proofs.BothLaws.{both_get_or, both_length, both_set}
 pub use Rattle.replay_list.proofs.LifeLaws.{agrees_recorded, agrees_ended}
 pub use Rattle.replay_list.proofs.RowLaws.{row_live}
+pub use Rattle.replay_list.proofs.CountLaws.{results_told}
 pub use Rattle.replay_list.proofs.ShownLaws.{shows_parts, rows_agree}
 use Rattle.replay_list.proofs.BothLaws.{both_get, both_set_right, both_weaker, both_map}
 use Rattle.replay_list.proofs.LifeLaws.{encoded_more, life_more, life_kept}

@@ -34,23 +34,23 @@ abbrev kind_in : Option Action → ℕ
 kind_in None = 0
 kind_in (Some action) = action.kind
 
-layer-few : {S B : Type 0} (layer : Stmt-F S B) → kind_in (action_layer layer) < 256
-layer-few (stmt.Let at e) = omega arith
-layer-few (stmt.Set at e) = omega arith
-layer-few (stmt.Apply to callee arguments) = omega arith
-layer-few (stmt.If e then_block else_block) = omega arith
-layer-few (stmt.While e body) = omega arith
-layer-few (stmt.Ploop place body) = omega arith
-layer-few (stmt.Break place) = omega arith
-layer-few (stmt.Return place value) = omega arith
-layer-few (stmt.Atomic place to body) = omega arith
-layer-few (stmt.Call place c to) = call-few c
+layer-few : {S B : Type 0} (p : Program) (layer : Stmt-F S B) → kind_in (action_layer p layer) < 256
+layer-few p (stmt.Let at e) = omega arith
+layer-few p (stmt.Set at e) = omega arith
+layer-few p (stmt.Apply to callee arguments) = omega arith
+layer-few p (stmt.If e then_block else_block) = omega arith
+layer-few p (stmt.While e body) = omega arith
+layer-few p (stmt.Ploop place body) = omega arith
+layer-few p (stmt.Break place) = omega arith
+layer-few p (stmt.Return place value) = omega arith
+layer-few p (stmt.Atomic place to body) = omega arith
+layer-few p (stmt.Call place c to) = call-few c
 
-kind-few : (s : Stmt) (action : Action) → action_of s ≡ Some action → action.kind < 256
-kind-few s action e = subst (λ n. n < 256) (ap kind_in e) (layer-few (out-Stmt s))
+kind-few : (p : Program) (s : Stmt) (action : Action) → action_of p s ≡ Some action → action.kind < 256
+kind-few p s action e = subst (λ n. n < 256) (ap kind_in e) (layer-few p (out-Stmt s))
 
 -- the kind word of an action tells how many results it has
-pub results_of-kind_word : (kind given : ℕ) → kind < 256 → results_of (kind_word kind given) ≡ result_count kind given
+results_of-kind_word : (kind given : ℕ) → kind < 256 → results_of (kind_word kind given) ≡ result_count kind given
 results_of-kind_word kind given few = cond_both (kind == 16) (16 + 256 * given) kind (λ w. results_of w ≡ result_count kind given)
     (λ yes.
     let is : kind ≡ 16 = eqb-true kind 16 yes in
@@ -61,6 +61,16 @@ results_of-kind_word kind given few = cond_both (kind == 16) (16 + 256 * given) 
     let low : kind % 256 ≡ kind = omega (arith, few) in
     ap (λ k. result_count k (kind / 256)) low
     ∙ ap (λ n. slice_index results (kind - 1) + n) (cond-false (kind == 16) (kind / 256) 0 other ∙ sym (cond-false (kind == 16) given 0 other)))
+
+-- the kind word of an action's record tells how many results it has
+pub results_told : (p : Program) (s : Stmt) (action : Action) → action_of p s ≡ Some action →
+    results_of (kind_word action.kind action.given) ≡ result_count action.kind action.given
+results_told p s action is = results_of-kind_word action.kind action.given (kind-few p s action is)
+
+-- the kind word of a call is its kind
+pub word_of_call : (c : Call) → kind_word (kind_of_call c) 0 ≡ kind_of_call c
+word_of_call (call.Print items) = refl
+word_of_call c = refl
 
 -- how many records a life passed, if there is one
 abbrev passed_in : Option Life → ℕ
@@ -73,13 +83,13 @@ module _ (p : Program) where
     pub fit : IsFit r
     pub one : later.passed ≡ life.passed + 1
 
-  by_records : (r : Record) (life later : Life) (s : Stmt) (action : Action) (next : Life) → action_of s ≡ Some action → (b : Bool) → records action r ≡ b → next.passed ≡ life.passed + 1 → (if b then Some next else None) ≡ Some later → IsPassed r life later
+  by_records : (r : Record) (life later : Life) (s : Stmt) (action : Action) (next : Life) → action_of p s ≡ Some action → (b : Bool) → records action r ≡ b → next.passed ≡ life.passed + 1 → (if b then Some next else None) ≡ Some later → IsPassed r life later
   by_records r life later s action next is true fits one e =
       let tests = both-true (kind_word action.kind action.given == r.kind) (result_count action.kind action.given == length r.results) fits in
       let kind : kind_word action.kind action.given ≡ r.kind = eqb-true _ _ tests.0 in
       let many : result_count action.kind action.given ≡ length r.results = eqb-true _ _ tests.1 in
       record {
-        fit = ap results_of (sym kind) ∙ results_of-kind_word action.kind action.given (kind-few s action is) ∙ many;
+        fit = ap results_of (sym kind) ∙ results_told p s action is ∙ many;
         one = sym (ap passed_in e) ∙ one;
       }
   by_records r life later s action next is false fits one e = absurd (let f : ◌≡◌ {A = Option Life} None (Some later) = e in cc)
@@ -90,17 +100,17 @@ module _ (p : Program) where
       a : Ahead
       a = ahead p life.local
 
-      by : (s : Stmt) (o : Option Action) → action_of s ≡ o → option_and_then (λ action. passed_by r life (ahead p life.local) action) o ≡ Some later → IsPassed r life later
+      by : (s : Stmt) (o : Option Action) → action_of p s ≡ o → option_and_then (λ action. passed_by p r life (ahead p life.local) action) o ≡ Some later → IsPassed r life later
       by s None is e = absurd (let f : ◌≡◌ {A = Option Life} None (Some later) = e in cc)
       by s (Some action) is e = by_records r life later s action
-          (record { local = bind (ahead p life.local).local r.results; moves = life.moves + (ahead p life.local).moves; passed = life.passed + 1 }) is (records action r) refl refl e
+          (record { local = bind p (ahead p life.local).local r.results; moves = life.moves + (ahead p life.local).moves; passed = life.passed + 1 }) is (records action r) refl refl e
 
       go : (arrival : Arrival) → elim arrival [
-        | AtAction statement ↦ option_and_then (λ action. passed_by r life (ahead p life.local) action) (action_of statement)
+        | AtAction statement ↦ option_and_then (λ action. passed_by p r life (ahead p life.local) action) (action_of p statement)
         | Finished ↦ None
         | Watchdog ↦ None
       ] ≡ Some later → IsPassed r life later
-      go (AtAction s) e = by s (action_of s) refl e
+      go (AtAction s) e = by s (action_of p s) refl e
       go Finished e = absurd (let f : ◌≡◌ {A = Option Life} None (Some later) = e in cc)
       go Watchdog e = absurd (let f : ◌≡◌ {A = Option Life} None (Some later) = e in cc)
 

@@ -1,6 +1,6 @@
 pub mod Callers
 mod LawSets
-mod KindLaws
+mod ValueLaws
 mod WordLaws
 mod RecordLaws
 mod AppendLaws

@@ -1,5 +1,5 @@
 -- The life of a row with one record more.
-use Rattle.std.proofs.Common.{◌≡◌, ℕ, ◌++◌, List, [], ◌∷◌, ap, sym, subst, ◌∙◌, arith, append_assoc, append-nil}
+use Rattle.std.proofs.Common.{◌≡◌, ℕ, ◌≤◌, ◌++◌, List, [], ◌∷◌, ap, sym, subst, ◌∙◌, arith, append_assoc, append-nil}
 use Rattle.std.proofs.lemmas.List.Sums.{sum_by_push}
 use Rattle.thread_tree.specs.Program.{Program}
 use Rattle.thread_tree.specs.Ahead.{Ahead}
@@ -31,20 +31,22 @@ life_more p old new thread later r life more relived =
       words = more.words ∙ ap (λ (ws : List ℕ). ws ++ r.kind ∷ r.results) life.words ∙ sym (encoded_more life.records r);
       relived = subst (λ (start : Start). IsRelived p start (life.records ++ r ∷ []) later) (sym same) relived;
       used = omega (arith, more.used, life.used, life.relived.owes, relived.owes, pushed);
+      few = subst (λ (n : ℕ). n ≤ 16) (sym (ap (λ (row : RowWords). row.start_count) more.rest)) life.few;
     }
 
--- the life of a row depends on its start and its records alone
-pub life_kept : (p : Program) (old new : RowWords) (thread : Thread) → start_in new ≡ start_in old → recorded new ≡ recorded old → new.used ≡ old.used → IsLife p old thread → IsLife p new thread
-life_kept p old new thread start words used life = record {
+-- the life of a row depends on its start and its records alone; its start values are few
+pub life_kept : (p : Program) (old new : RowWords) (thread : Thread) → start_in new ≡ start_in old → recorded new ≡ recorded old → new.used ≡ old.used → new.start_count ≤ 16 → IsLife p old thread → IsLife p new thread
+life_kept p old new thread start words used few life = record {
   records = life.records;
   words = words ∙ life.words;
   relived = subst (λ (start : Start). IsRelived p start life.records thread) (sym start) life.relived;
   used = used ∙ life.used;
+  few = few;
 }
 
 -- a row with one record more agrees with the thread that was served
-pub agrees_recorded : (old new : RowWords) (thread : Thread) (a : Ahead) (kind : ℕ) (results : List ℕ) → Agrees old (Live thread) → IsRecorded kind results old new → Agrees new (Live (served results (arrived a thread)))
-agrees_recorded old new thread a kind results agrees more =
+pub agrees_recorded : (p : Program) (old new : RowWords) (thread : Thread) (a : Ahead) (kind : ℕ) (results : List ℕ) → Agrees old (Live thread) → IsRecorded kind results old new → Agrees new (Live (served p results (arrived a thread)))
+agrees_recorded p old new thread a kind results agrees more =
     let h : IsThread (record new { used = old.used; records = old.records }) thread = subst (λ (row : RowWords). IsThread row thread) (sym more.rest) agrees in
     record { template = h.template; priority = h.priority; stamp = h.stamp; does = h.does }
 

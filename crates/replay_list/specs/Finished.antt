@@ -13,14 +13,14 @@ use Rattle.replay_list.specs.Records.{IsAppended}
 pub record IsUnfinished (p : Program) (contexts : List (Option Ctx)) (thread : ℕ) (results : List ℕ) (ctx : Ctx) (action : Action) : Type 0 where
   pub there : option_and_then (λ found. found) (slice_get contexts thread) ≡ Some ctx
   pub context : IsContext p ctx
-  pub next : next_action (local_of p ctx) ≡ Some action
+  pub next : next_action p (local_of p ctx) ≡ Some action
   pub many : length results ≡ result_count action.kind action.given
 
 -- the context of a thread was given the results of its action
 pub record IsGiven (p : Program) (thread : ℕ) (results : List ℕ) (ctx : Ctx) (old new : List (Option Ctx)) : Type 0 where
   pub later : Ctx
   pub context : IsContext p later
-  pub bound : local_of p later ≡ bind (local_of p ctx) results
+  pub bound : local_of p later ≡ bind p (local_of p ctx) results
   pub put : new ≡ slice_set old thread (Some later)
 
 -- the thread has the record of its action, and its context the results

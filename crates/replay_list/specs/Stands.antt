@@ -17,15 +17,18 @@ use Rattle.kernel_image.specs.Agree.{Agrees, Both}
 use Rattle.kernel_image.specs.Decoded.{Decoded, RowWords, queue_at, semaphore_at}
 use Rattle.kernel_image.specs.Shown.{items_of, byte_of, objects_in, shown}
 use Rattle.kernel_image.specs.Decoded.{listed}
-use Rattle.persistent_objects.specs.Holes.{AreHoles}
+use Rattle.kernel_image.specs.Unread.{IsUnread}
+use Rattle.persistent_objects.specs.Layout.{IsLaidOut}
 use Rattle.replay_list.specs.Records.{encoded, recorded, start_in}
 
--- the start and the records in a row give its thread back, and the words of the records are what it owes
+-- the start and the records in a row give its thread back, the words of the records are what it owes, and the values of
+-- the start are among the sixteen
 pub record IsLife (p : Program) (row : RowWords) (thread : Thread) : Type 0 where
   pub records : List Record
   pub words : recorded row ≡ encoded records
   pub relived : IsRelived p (start_in row) records thread
   pub used : row.used ≡ thread.debt
+  pub few : row.start_count ≤ 16
 
 -- a live thread's row has its life
 abbrev pub HasLife : Program → RowWords → kernel.Row → Type 0
@@ -48,8 +51,8 @@ counts_in p d = map (λ semaphore. (semaphore_at d semaphore.0).count) (enumerat
 abbrev pub console_in : Decoded → List ℕ
 console_in d = listed d.console_length (byte_of d.console)
 
--- the image stands for a kernel of the uncut run: it shows what can be seen of it, and has the lives of its threads, and
--- the holes of the heap are what lies between the objects
+-- the image stands for a kernel of the uncut run: it shows what can be seen of it, and has the lives of its threads, the
+-- heap is laid out in its objects and the holes between them, and what nothing reads is as formatting gave it
 pub record Stands (p : Program) (d : Decoded) (K : State) : Type 0 where
   pub sound : IsSound p K
   pub shows : shown p d ≡ visible p K
@@ -60,7 +63,8 @@ pub record Stands (p : Program) (d : Decoded) (K : State) : Type 0 where
   pub counts : counts_in p d ≡ K.counts
   pub console : console_in d ≡ K.console
   pub objects : objects_in p d.heap d.live ≡ K.objects
-  pub holes : AreHoles d.heap d.first_hole first_place K.objects
+  pub layout : IsLaidOut d.heap d.first_hole first_place K.objects
+  pub unread : IsUnread p d
   pub stamp : d.stamp ≡ K.stamp
   pub few_stamps : K.stamp ≤ 16 + 17 * K.events
 

@@ -5,28 +5,29 @@ ghost use Rattle.undo_journal.specs.Undo.{room_of};
 ghost use Rattle.undo_journal.specs.Lending.{IsLent, IsWithin};
 ghost use Rattle.thread_tree.specs.Kinds.{Action, action_of, kind_word, result_count};
 ghost use Rattle.thread_tree.specs.LocalState.{next_action};
-ghost use Rattle.thread_tree.specs.Program.{program_of};
+ghost use Rattle.thread_tree.specs.Program.{Program, program_of};
 ghost use Rattle.thread_machine.specs.Context.{local_of};
 ghost use Rattle.thread_machine.specs.declared.context.Ctx.{Ctx};
 ghost use Rattle.kernel_image.specs.Decoded.{image_in, row_at};
 ghost use Rattle.replay_list.specs.Finished.{IsUnfinished, IsGiven, IsFinished};
 
 use crate::appending::append;
-use kernel_model::kind_of;
 use nv_memory::{Cut, Nv};
 use thread_check::Checked;
 use thread_machine::{Contexts, Ctx};
-use thread_tree::Stmt;
+use thread_tree::{Stmt, kind_of_call};
 use undo_journal::Open;
 
 // The kind word of the record of an action with at most four results.
+#[tactic(auto, using(crate::proofs::CountLaws::word_of_call))]
 fn kind_word_of(statement: &Stmt) -> u32
-    requires action { IsSomeAnd (action_of statement.now) (λ action. result_count action.kind action.given ≤ 4) }
-    ensures kind { IfSome (action_of statement.now) (λ action. result ≡ kind_word action.kind action.given) }
+    requires action { (p : Program) × IsSomeAnd (action_of p statement.now) (λ action. result_count action.kind action.given ≤ 4) }
+    ensures kind { (p : Program) → IfSome (action_of p statement.now) (λ action. result ≡ kind_word action.kind action.given) }
 {
     match statement {
         Stmt::Atomic(_, to, _) => 16 + 256 * to.len().saturating_sub(1) as u32,
-        Stmt::Call(..) | Stmt::Ploop(..) => kind_of(statement),
+        Stmt::Call(_, call, _) => kind_of_call(call),
+        Stmt::Ploop(..) => 14,
         Stmt::Let(..) | Stmt::Set(..) | Stmt::Apply(..) | Stmt::If(..) => 0,
         Stmt::While(..) | Stmt::Break(..) | Stmt::Return(..) => 0,
     }
@@ -34,8 +35,8 @@ fn kind_word_of(statement: &Stmt) -> u32
 
 // The kind word of the record of the action at which a context stands.
 fn kind_word_at(program: &Checked, ctx: &Ctx) -> u32
-    requires action { IsSomeAnd (next_action (local_of (program_of program.now) ctx.now)) (λ action. result_count action.kind action.given ≤ 4) }
-    ensures kind { IfSome (next_action (local_of (program_of program.now) ctx.now)) (λ action. result ≡ kind_word action.kind action.given) }
+    requires action { IsSomeAnd (next_action (program_of program.now) (local_of (program_of program.now) ctx.now)) (λ action. result_count action.kind action.given ≤ 4) }
+    ensures kind { IfSome (next_action (program_of program.now) (local_of (program_of program.now) ctx.now)) (λ action. result ≡ kind_word action.kind action.given) }
 {
     let number = ctx.number(program.tree());
     kind_word_of(program.action(number))

@@ -8,6 +8,7 @@ mod laws;
 mod outcome;
 mod reading;
 mod record;
+mod starting;
 
 pub use appending::{append, clear};
 pub use finishing::finish;
@@ -16,3 +17,4 @@ pub use laws::standing_laws;
 pub use outcome::Outcome;
 pub use reading::{record_at, record_count, record_word, result_count, words_used};
 pub use record::Record;
+pub use starting::{start_values, store_values};

@@ -19,17 +19,10 @@ pub fn words_used<W: Words>(words: &W, thread: u32) -> u32
 }
 
 /// How many results a record has that begins with this kind word.
-#[tactic(auto, using(crate::proofs::LawSets::kind_laws))]
 pub fn result_count(kind_word: u32) -> u32
     ensures count { result ≡ results_of kind_word }
 {
-    match kind_word % 256 {
-        4 | 12 | 14 | 15 => 0,
-        8 => 2,
-        16 => 1 + kind_word / 256,
-        0..=13 => 1,
-        _ => 0,
-    }
+    thread_tree::result_count(kind_word % 256, kind_word / 256)
 }
 
 /// The word at this place of the records of a thread, counted from 0.

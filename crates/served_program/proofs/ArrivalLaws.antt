@@ -119,19 +119,19 @@ module _ (p : Program) (declares : Declares p) (none : loops p ≡ []) where
       a : Ahead
       a = ahead p life.local
 
-      by : (o : Option Action) → LivesIfSome (option_and_then (λ action. passed_by r life a action) o)
+      by : (o : Option Action) → LivesIfSome (option_and_then (λ action. passed_by p r life a action) o)
       by None = tt
       by (Some action) = cond_both (records action r)
-          (Some (record { local = bind a.local r.results; moves = life.moves + a.moves; passed = life.passed + 1 })) None LivesIfSome
-          (λ e. bind_served a.local r.results (ahead_served p declares.functions life.local h).0)
+          (Some (record { local = bind p a.local r.results; moves = life.moves + a.moves; passed = life.passed + 1 })) None LivesIfSome
+          (λ e. bind_served p a.local r.results (ahead_served p declares.functions life.local h).0)
           (λ e. tt)
 
       go : (arrival : Arrival) → LivesIfSome (elim arrival [
-        | AtAction statement ↦ option_and_then (λ action. passed_by r life a action) (action_of statement)
+        | AtAction statement ↦ option_and_then (λ action. passed_by p r life a action) (action_of p statement)
         | Finished ↦ None
         | Watchdog ↦ None
       ])
-      go (AtAction statement) = by (action_of statement)
+      go (AtAction statement) = by (action_of p statement)
       go Finished = tt
       go Watchdog = tt
 

@@ -148,5 +148,5 @@ pub move_served : (p : Program) (s : LocalState) → AllByRecursion IsServedFunc
 move_served p s functions h = moved_served p functions s.top s.below h.1 s.top.todo h.0
 
 -- the results of an action keep what is to do served
-pub bind_served : (s : LocalState) (results : List ℕ) → IsServedState s → IsServedState (bind s results)
-bind_served s results h = (after_first_served s.top.todo h.0, h.1)
+pub bind_served : (p : Program) (s : LocalState) (results : List ℕ) → IsServedState s → IsServedState (bind p s results)
+bind_served p s results h = (after_first_served s.top.todo h.0, h.1)

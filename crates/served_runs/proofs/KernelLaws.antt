@@ -85,34 +85,34 @@ stopped_row code Free h = tt
 stopped_row code (Ended template priority before) h = tt
 stopped_row code (Live thread) h = tt
 
-stops : (K : State) (t code : ℕ) → IsServedKernel K → IsServedKernel (settle t (Stops code) K)
-stops K t code h = set_rows K.rows t (stopped code (row_of K t)) h (stopped_row code (row_of K t) (row_at K.rows t h))
+stops : (p : Program) (K : State) (t code : ℕ) → IsServedKernel K → IsServedKernel (settle p t (Stops code) K)
+stops p K t code h = set_rows K.rows t (stopped code (row_of K t)) h (stopped_row code (row_of K t) (row_at K.rows t h))
 
 -- an action that is finished with results
-serves : (K : State) (t : ℕ) (results : List ℕ) → IsServedKernel K → IsServedKernel (settle t (Serves results) K)
-serves K t results h =
-    changed_kernel K t (served results) (λ thread g. record { ready = g.ready; todo = bind_served thread.local results g.todo }) h
+serves : (p : Program) (K : State) (t : ℕ) (results : List ℕ) → IsServedKernel K → IsServedKernel (settle p t (Serves results) K)
+serves p K t results h =
+    changed_kernel K t (served p results) (λ thread g. record { ready = g.ready; todo = bind_served p thread.local results g.todo }) h
 
 -- a print
-prints : (K : State) (t : ℕ) (bytes : List ℕ) → IsServedKernel K → IsServedKernel (settled t (print K bytes))
-prints K t bytes h =
-    cond_both (nat_le (length K.console + length bytes) console_room) (answers (1 ∷ []) (record K { console = K.console ++ bytes })) (answers (0 ∷ []) K) (λ (effect : Effect). IsServedKernel (settled t effect))
-    (λ fits. serves (record K { console = K.console ++ bytes }) t (1 ∷ []) h)
-    (λ full. serves K t (0 ∷ []) h)
+prints : (p : Program) (K : State) (t : ℕ) (bytes : List ℕ) → IsServedKernel K → IsServedKernel (settled p t (print K bytes))
+prints p K t bytes h =
+    cond_both (nat_le (length K.console + length bytes) console_room) (answers (1 ∷ []) (record K { console = K.console ++ bytes })) (answers (0 ∷ []) K) (λ (effect : Effect). IsServedKernel (settled p t effect))
+    (λ fits. serves p (record K { console = K.console ++ bytes }) t (1 ∷ []) h)
+    (λ full. serves p K t (0 ∷ []) h)
 
 -- the end of a block
-ends : (K : State) (t given : ℕ) (how : BlockEnd) → IsServedKernel K → IsServedKernel (settled t (effect_of_end K given how))
-ends K t given (Gave objects values) h = serves (record K { objects = objects }) t (1 ∷ values) h
-ends K t given Aborted h = serves K t (replicate (given + 1) 0) h
-ends K t given (Fault code) h = stops K t code h
+ends : (p : Program) (K : State) (t given : ℕ) (how : BlockEnd) → IsServedKernel K → IsServedKernel (settled p t (effect_of_end K given how))
+ends p K t given (Gave objects values) h = serves p (record K { objects = objects }) t (1 ∷ values) h
+ends p K t given Aborted h = serves p K t (replicate (given + 1) 0) h
+ends p K t given (Fault code) h = stops p K t code h
 
 -- a served call
-calls : (p : Program) (K : State) (t : ℕ) (locals : List Local) (c : Call) → IsTrue (is_served_call c) → IsServedKernel K → IsServedKernel (settled t (effect_of_call p K t locals c))
-calls p K t locals (call.Print items) is h = prints K t (printed_line locals items) h
+calls : (p : Program) (K : State) (t : ℕ) (locals : List Local) (c : Call) → IsTrue (is_served_call c) → IsServedKernel K → IsServedKernel (settled p t (effect_of_call p K t locals c))
+calls p K t locals (call.Print items) is h = prints p K t (printed_line locals items) h
 calls p K t locals c is h = absurd (false≢true is)
 
 -- a served action
-acts : (p : Program) (K : State) (t : ℕ) (locals : List Local) (x : Stmt-F Stmt Block) → IsTrue (is_served_action x) → IsServedKernel K → IsServedKernel (settled t (effect_of_layer p K t locals x))
+acts : (p : Program) (K : State) (t : ℕ) (locals : List Local) (x : Stmt-F Stmt Block) → IsTrue (is_served_action x) → IsServedKernel K → IsServedKernel (settled p t (effect_of_layer p K t locals x))
 acts p K t locals (stmt.Let at e) is h = absurd (false≢true is)
 acts p K t locals (stmt.Set at e) is h = absurd (false≢true is)
 acts p K t locals (stmt.Apply to callee arguments) is h = absurd (false≢true is)
@@ -121,7 +121,7 @@ acts p K t locals (stmt.While e body) is h = absurd (false≢true is)
 acts p K t locals (stmt.Ploop place body) is h = absurd (false≢true is)
 acts p K t locals (stmt.Break place) is h = absurd (false≢true is)
 acts p K t locals (stmt.Return place value) is h = absurd (false≢true is)
-acts p K t locals (stmt.Atomic place to body) is h = ends K t (length to - 1) (block p K.objects locals (length to - 1) body) h
+acts p K t locals (stmt.Atomic place to body) is h = ends p K t (length to - 1) (block p K.objects locals (length to - 1) body) h
 acts p K t locals (stmt.Call place c to) is h = calls p K t locals c is h
 
 -- what a thread performs where it arrives
@@ -129,17 +129,17 @@ performs : (p : Program) (K : State) (t : ℕ) (a : Ahead) (thread : Thread) →
 performs p K t a thread arrives h = go a.arrival arrives
   where
     go : (arrival : Arrival) → Arrives arrival → IsServedKernel (elim arrival [
-      | Finished ↦ settle t (Stops ordinary_end) K
-      | Watchdog ↦ settle t (Stops watchdog) K
-      | AtAction statement ↦ cond (nat_lt record_room (thread.debt + need t a.local.top.locals statement))
-          (settle t (Stops no_record_room) K)
-          (settled t (effect_of p K t a.local.top.locals statement))
+      | Finished ↦ settle p t (Stops ordinary_end) K
+      | Watchdog ↦ settle p t (Stops watchdog) K
+      | AtAction statement ↦ cond (nat_lt record_room (thread.debt + need p t a.local.top.locals statement))
+          (settle p t (Stops no_record_room) K)
+          (settled p t (effect_of p K t a.local.top.locals statement))
     ])
-    go Finished g = stops K t ordinary_end h
-    go Watchdog g = stops K t watchdog h
+    go Finished g = stops p K t ordinary_end h
+    go Watchdog g = stops p K t watchdog h
     go (AtAction statement) g =
-        cond_both (nat_lt record_room (thread.debt + need t a.local.top.locals statement)) (settle t (Stops no_record_room) K) (settled t (effect_of p K t a.local.top.locals statement)) IsServedKernel
-        (λ full. stops K t no_record_room h)
+        cond_both (nat_lt record_room (thread.debt + need p t a.local.top.locals statement)) (settle p t (Stops no_record_room) K) (settled p t (effect_of p K t a.local.top.locals statement)) IsServedKernel
+        (λ full. stops p K t no_record_room h)
         (λ room. acts p K t a.local.top.locals (out-Stmt statement) (g statement refl) h)
 
 module _ (p : Program) (functions : AllByRecursion IsServedFunction p.functions) where

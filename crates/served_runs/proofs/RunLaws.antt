@@ -6,7 +6,7 @@ use Rattle.kernel_model.specs.declared.event.Event.TheVariants.{Step}
 use Rattle.kernel_model.specs.Kernel.{Activity, Thread, Row, State, thread_of}
 use Rattle.kernel_model.specs.Kernel.Activity.{Ready}
 use Rattle.kernel_model.specs.Kernel.Row.{Free, Ended, Live}
-use Rattle.kernel_model.specs.Numbers.{template_number}
+use Rattle.thread_tree.specs.Numbers.{template_number}
 use Rattle.kernel_model.specs.Order.{in_order, Numbered}
 use Rattle.kernel_model.specs.Calls.{born}
 use Rattle.kernel_model.specs.Run.{row_count, counted, one, start_row, start_rows, initial, on, after}

@@ -1,5 +1,5 @@
 -- The types of objects and the templates of starts are declared.
-use Rattle.std.proofs.Common.{◌≡◌, ℕ, ◌+◌, ◌==◌, Bool, true, false, cond, eqb, List, [], ◌∷◌, ◌++◌, length, All, Option, Some, None, IsSome, IfSome, option_map, Ok, Err, refl, sym, ap, ◌∙◌, subst, append_assoc, ⊎_elim, inl, inr, ◌⊎◌, if◌then◌else◌}
+use Rattle.std.proofs.Common.{◌≡◌, ℕ, ◌+◌, ◌==◌, Bool, true, false, eqb, List, [], ◌∷◌, ◌++◌, length, All, Option, IsSome, IfSome, Ok, Err, refl, sym, ap, ◌∙◌, subst, append_assoc, if◌then◌else◌}
 use Rattle.std.proofs.lemmas.Bool.{eqb-true}
 use Rattle.std.proofs.lemmas.List.{length-map}
 use Rattle.std.specs.List.{find}
@@ -10,113 +10,27 @@ use Rattle.thread_tree.specs.declared.place.Num.{Num}
 use Rattle.thread_tree.specs.declared.tree.Tree.{Tree}
 use Rattle.thread_tree.specs.declared.tree.Decl.{Decl}
 use Rattle.thread_tree.specs.declared.tree.Decl.TheVariants as decl
-use Rattle.thread_tree.specs.Program.{Kind, Object, Template, Start, sorted, names_of, values_of, program_of}
+use Rattle.thread_tree.specs.Program.{Kind, Object, Template, Start, sorted, values_of, program_of}
 use Rattle.thread_tree.specs.Limits.{kind_named, template_named}
 use Rattle.thread_check.specs.declared.fault.CheckFault.TheVariants.{WrongCount}
 use Rattle.thread_check.specs.declared.fault.Kind.TheVariants as kind
-use Rattle.thread_check.specs.declared.sort.Sort.{Sort}
 use Rattle.thread_check.specs.declared.sort.Sort.TheVariants as sort
 use Rattle.thread_check.specs.Verdict.{fine, ◌>>◌, same_count, within_limit}
 use Rattle.thread_check.specs.Scope.{Scope, no_scope}
-use Rattle.thread_check.specs.Names.{Names, declares, declaration_of, sort_of, sort_of_declaration, arity, arity_of_declaration}
-use Rattle.thread_check.specs.Uses.{used, fitting, same_sort}
+use Rattle.thread_check.specs.Names.{Names, declaration_of, arity, arity_of_declaration}
+use Rattle.thread_check.specs.Uses.{used, same_sort}
 use Rattle.thread_check.specs.Declarations.{count_of, declaration_rule, declarations_rule, after_declaration, with_declaration}
 use Rattle.thread_check.specs.Faults.{no_names}
+use Rattle.thread_check.proofs.DeclaredLaws.{declared_as, of_sort, kind_there, template_there}
 use Rattle.thread_check.proofs.FewLaws.{kept_first, kept_second}
 use Rattle.thread_check.proofs.KeptLaws.{first_kept, All-nil, All-cons}
 
--- a name that fits where a kind must stand is one
-fitting-kind : (at : At) (found : Option Sort) → fitting sort.Kind at found ≡ Ok tt → found ≡ Some sort.Kind
-unfolding same_sort
-fitting-kind at None kept = cc
-fitting-kind at (Some sort.Local) kept = cc
-fitting-kind at (Some sort.Kind) kept = refl
-fitting-kind at (Some sort.Object) kept = cc
-fitting-kind at (Some sort.Queue) kept = cc
-fitting-kind at (Some sort.Semaphore) kept = cc
-fitting-kind at (Some sort.Function) kept = cc
-fitting-kind at (Some sort.Thread) kept = cc
-fitting-kind at (Some sort.Start) kept = cc
-
--- a used kind is declared
-used-kind : (names : Names) (loops : ℕ) (at : At) → used names (no_scope loops) sort.Kind at ≡ Ok tt → option_map sort_of_declaration (declaration_of names at.name) ≡ Some sort.Kind
-unfolding used sort_of
-used-kind names loops at kept = fitting-kind at (option_map sort_of_declaration (declaration_of names at.name)) kept
-
--- a name that fits where a thread must stand is one
-fitting-thread : (at : At) (found : Option Sort) → fitting sort.Thread at found ≡ Ok tt → found ≡ Some sort.Thread
-unfolding same_sort
-fitting-thread at None kept = cc
-fitting-thread at (Some sort.Local) kept = cc
-fitting-thread at (Some sort.Kind) kept = cc
-fitting-thread at (Some sort.Object) kept = cc
-fitting-thread at (Some sort.Queue) kept = cc
-fitting-thread at (Some sort.Semaphore) kept = cc
-fitting-thread at (Some sort.Function) kept = cc
-fitting-thread at (Some sort.Thread) kept = refl
-fitting-thread at (Some sort.Start) kept = cc
-
--- a used thread is declared
-used-thread : (names : Names) (loops : ℕ) (at : At) → used names (no_scope loops) sort.Thread at ≡ Ok tt → option_map sort_of_declaration (declaration_of names at.name) ≡ Some sort.Thread
-unfolding used sort_of
-used-thread names loops at kept = fitting-thread at (option_map sort_of_declaration (declaration_of names at.name)) kept
-
--- what has a sort is declared
-record OfSort (wanted : Sort) (o : Option Decl) : Type 0 where
-  it : Decl
-  there : o ≡ Some it
-  of_sort : sort_of_declaration it ≡ wanted
-
--- a declaration of a sort
-of_sort : (wanted : Sort) (o : Option Decl) → option_map sort_of_declaration o ≡ Some wanted → OfSort wanted o
-of_sort wanted None e = absurd (cc)
-of_sort wanted (Some d) e = record { it = d; there = refl; of_sort = cc }
-
--- a choice between a first and the rest
-choice : (b : Bool) (d x : Decl) (rest : Option Decl) → cond b (Some d) rest ≡ Some x → ((b ≡ true) × (d ≡ x)) ⊎ ((b ≡ false) × (rest ≡ Some x))
-choice true d x rest e = inl (refl, cc)
-choice false d x rest e = inr (refl, e)
-
--- sorts that differ
-different : (d x : Decl) (wanted : Sort) → d ≡ x → sort_of_declaration x ≡ wanted → sort_of_declaration d ≡ wanted
-different d x wanted same e = ap sort_of_declaration same ∙ e
-
--- a type that is in scope is a type of the program
-kind_there : (ds more : List Decl) (name : ℕ) (x : Decl) → find (declares name) ds ≡ Some x → sort_of_declaration x ≡ sort.Kind → IsSome (find (λ kind. kind.name == name) (sorted (ds ++ more)).kinds)
-unfolding declares sort_of_declaration
-kind_there [] more name x e of = absurd (cc)
-kind_there (decl.Kind at fields ∷ ds) more name x e of = ⊎_elim (λ yes. subst (λ b. IsSome (cond b (Some (record { name = at.name; fields = names_of fields })) (find (λ (kind : Kind). kind.name == name) (sorted (ds ++ more)).kinds))) (sym yes.0) refl) (λ no. subst (λ b. IsSome (cond b (Some (record { name = at.name; fields = names_of fields })) (find (λ (kind : Kind). kind.name == name) (sorted (ds ++ more)).kinds))) (sym no.0) (kind_there ds more name x no.1 of)) (choice (eqb at.name name) (decl.Kind at fields) x (find (declares name) ds) e)
-kind_there (decl.Object at kind ∷ ds) more name x e of = ⊎_elim (λ yes. let wrong : sort.Object ≡ sort.Kind = different (decl.Object at kind) x sort.Kind yes.1 of in absurd (cc)) (λ no. kind_there ds more name x no.1 of) (choice (eqb at.name name) (decl.Object at kind) x (find (declares name) ds) e)
-kind_there (decl.Queue at capacity channel ∷ ds) more name x e of = ⊎_elim (λ yes. let wrong : sort.Queue ≡ sort.Kind = different (decl.Queue at capacity channel) x sort.Kind yes.1 of in absurd (cc)) (λ no. kind_there ds more name x no.1 of) (choice (eqb at.name name) (decl.Queue at capacity channel) x (find (declares name) ds) e)
-kind_there (decl.Semaphore at count maximum ∷ ds) more name x e of = ⊎_elim (λ yes. let wrong : sort.Semaphore ≡ sort.Kind = different (decl.Semaphore at count maximum) x sort.Kind yes.1 of in absurd (cc)) (λ no. kind_there ds more name x no.1 of) (choice (eqb at.name name) (decl.Semaphore at count maximum) x (find (declares name) ds) e)
-kind_there (decl.Function at parameters body ∷ ds) more name x e of = ⊎_elim (λ yes. let wrong : sort.Function ≡ sort.Kind = different (decl.Function at parameters body) x sort.Kind yes.1 of in absurd (cc)) (λ no. kind_there ds more name x no.1 of) (choice (eqb at.name name) (decl.Function at parameters body) x (find (declares name) ds) e)
-kind_there (decl.Thread at parameters priority body ∷ ds) more name x e of = ⊎_elim (λ yes. let wrong : sort.Thread ≡ sort.Kind = different (decl.Thread at parameters priority body) x sort.Kind yes.1 of in absurd (cc)) (λ no. kind_there ds more name x no.1 of) (choice (eqb at.name name) (decl.Thread at parameters priority body) x (find (declares name) ds) e)
-kind_there (decl.Start place at numbers ∷ ds) more name x e of = kind_there ds more name x e of
-
--- the template of a thread
-record IsTemplateOf (x : Decl) (o : Option Template) : Type 0 where
-  template : Template
-  there : o ≡ Some template
-  parameters : length template.parameters ≡ arity_of_declaration x
-
--- a thread that is in scope is a template of the program
-template_there : (ds more : List Decl) (name : ℕ) (x : Decl) → find (declares name) ds ≡ Some x → sort_of_declaration x ≡ sort.Thread → IsTemplateOf x (find (λ template. template.name == name) (sorted (ds ++ more)).templates)
-unfolding declares sort_of_declaration arity_of_declaration
-template_there [] more name x e of = absurd (cc)
-template_there (decl.Kind at fields ∷ ds) more name x e of = ⊎_elim (λ yes. let wrong : sort.Kind ≡ sort.Thread = different (decl.Kind at fields) x sort.Thread yes.1 of in absurd (cc)) (λ no. template_there ds more name x no.1 of) (choice (eqb at.name name) (decl.Kind at fields) x (find (declares name) ds) e)
-template_there (decl.Object at kind ∷ ds) more name x e of = ⊎_elim (λ yes. let wrong : sort.Object ≡ sort.Thread = different (decl.Object at kind) x sort.Thread yes.1 of in absurd (cc)) (λ no. template_there ds more name x no.1 of) (choice (eqb at.name name) (decl.Object at kind) x (find (declares name) ds) e)
-template_there (decl.Queue at capacity channel ∷ ds) more name x e of = ⊎_elim (λ yes. let wrong : sort.Queue ≡ sort.Thread = different (decl.Queue at capacity channel) x sort.Thread yes.1 of in absurd (cc)) (λ no. template_there ds more name x no.1 of) (choice (eqb at.name name) (decl.Queue at capacity channel) x (find (declares name) ds) e)
-template_there (decl.Semaphore at count maximum ∷ ds) more name x e of = ⊎_elim (λ yes. let wrong : sort.Semaphore ≡ sort.Thread = different (decl.Semaphore at count maximum) x sort.Thread yes.1 of in absurd (cc)) (λ no. template_there ds more name x no.1 of) (choice (eqb at.name name) (decl.Semaphore at count maximum) x (find (declares name) ds) e)
-template_there (decl.Function at parameters body ∷ ds) more name x e of = ⊎_elim (λ yes. let wrong : sort.Function ≡ sort.Thread = different (decl.Function at parameters body) x sort.Thread yes.1 of in absurd (cc)) (λ no. template_there ds more name x no.1 of) (choice (eqb at.name name) (decl.Function at parameters body) x (find (declares name) ds) e)
-template_there (decl.Thread at parameters priority body ∷ ds) more name x e of = ⊎_elim (λ yes. subst (λ b. IsTemplateOf x (cond b (Some (record { name = at.name; parameters = names_of parameters; priority = priority.value; body = body })) (find (λ (template : Template). template.name == name) (sorted (ds ++ more)).templates))) (sym yes.0) (record { template = (record { name = at.name; parameters = names_of parameters; priority = priority.value; body = body }); there = refl; parameters = length-map parameters (λ at. at.name) ∙ ap arity_of_declaration yes.1 })) (λ no. subst (λ b. IsTemplateOf x (cond b (Some (record { name = at.name; parameters = names_of parameters; priority = priority.value; body = body })) (find (λ (template : Template). template.name == name) (sorted (ds ++ more)).templates))) (sym no.0) (template_there ds more name x no.1 of)) (choice (eqb at.name name) (decl.Thread at parameters priority body) x (find (declares name) ds) e)
-template_there (decl.Start place at numbers ∷ ds) more name x e of = template_there ds more name x e of
-
 -- an object that is kept has a type of the program
 object_known : (names : Names) (loops : ℕ) (at type_name : At) (scope : Scope) (ds : List Decl) → declaration_rule names loops (decl.Object at type_name) ≡ Ok scope → IsSome (find (λ kind. kind.name == type_name.name) (sorted ((names.declarations ++ decl.Object at type_name ∷ []) ++ ds)).kinds)
-unfolding declaration_rule
+unfolding declaration_rule same_sort
 object_known names loops at type_name scope ds kept =
     let with : Names = with_declaration (decl.Object at type_name) names in
-    let of = of_sort sort.Kind (declaration_of with type_name.name) (used-kind with loops type_name (kept_first (used with (no_scope loops) sort.Kind type_name) _ scope (kept_second _ _ scope kept))) in
+    let of = of_sort sort.Kind (declaration_of with type_name.name) (declared_as with (no_scope loops) sort.Kind type_name refl (kept_first (used with (no_scope loops) sort.Kind type_name) _ scope (kept_second _ _ scope kept))) in
     kind_there with.declarations ds type_name.name of.it of.there of.of_sort
 
 -- counts that are the same
@@ -135,10 +49,10 @@ record IsKnownStart (start : Start) (o : Option Template) : Type 0 where
 
 -- a start that is kept has a template of the program
 start_known : (names : Names) (loops : ℕ) (place : Place) (at : At) (numbers : List Num) (scope : Scope) (ds : List Decl) → declaration_rule names loops (decl.Start place at numbers) ≡ Ok scope → IsKnownStart (record { template = at.name; arguments = values_of numbers }) (find (λ template. template.name == at.name) (sorted (names.declarations ++ ds)).templates)
-unfolding declaration_rule arity
+unfolding declaration_rule arity same_sort
 start_known names loops place at numbers scope ds kept =
     let rest = kept_second (within_limit place kind.Starts 16 (count_of sort.Start names.declarations + 1)) (used names (no_scope loops) sort.Thread at >> same_count at.place (arity names at.name) (length numbers) >> Ok (no_scope loops)) scope kept in
-    let of = of_sort sort.Thread (declaration_of names at.name) (used-thread names loops at (kept_first _ _ scope rest)) in
+    let of = of_sort sort.Thread (declaration_of names at.name) (declared_as names (no_scope loops) sort.Thread at refl (kept_first _ _ scope rest)) in
     let t = template_there names.declarations ds at.name of.it of.there of.of_sort in
     let count : length numbers ≡ arity names at.name = same_count-kept at.place (arity names at.name) (length numbers) (kept_first (same_count at.place (arity names at.name) (length numbers)) _ scope (kept_second (used names (no_scope loops) sort.Thread at) _ scope rest)) in
     let known : arity names at.name ≡ arity_of_declaration of.it = ap (λ o. option_map_or arity_of_declaration o 0) of.there in

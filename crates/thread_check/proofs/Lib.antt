@@ -16,5 +16,10 @@ mod NeedLaws
 mod FitLaws
 mod LoopLaws
 mod ProgramLoops
+mod DeclaredLaws
 mod KnownLaws
 mod WithinLaws
+mod GiveLaws
+mod KeptActions
+mod ActionFits
+mod ProgramFits

@@ -10,3 +10,6 @@ pub mod Statements
 pub mod Declarations
 pub mod Faults
 pub mod ActionLists
+pub mod Gives
+pub mod Fit
+pub mod Loopless

@@ -1,5 +1,4 @@
 ghost use Rattle.std.specs.Prelude.{◌≡◌, ◌+◌, ◌≤◌, ◌<◌, ◌==◌, ◌∷◌, [], length, take, drop, OnOk};
-ghost use Rattle.thread_tree.specs.Kinds.{result_count, kind_of_call};
 ghost use Rattle.thread_check.specs.Calls.{once, further_taker, further_takers, takers, who_rule, counted_item, item_rule, items_rule, piece_rule, call_rule};
 ghost use Rattle.thread_tree.specs.Pieces.{piece_seen};
 
@@ -9,27 +8,6 @@ use crate::scope::Scope;
 use crate::sort::Sort;
 use crate::uses::{same_count, stands_at, within_limit};
 use thread_tree::{At, Call, Few, Item, List, Needed, Piece, Place, Who, pieces};
-
-/// How many results a call has.
-pub(crate) fn results(call: &Call) -> usize
-    ensures { result ≡ result_count (kind_of_call call.now) 0 }
-{
-    match call {
-        Call::Print(_) => 1,
-        Call::Spawn(_, _) => 1,
-        Call::Delete(_) => 1,
-        Call::Delay(_) => 0,
-        Call::Setprio(_, _) => 1,
-        Call::Getprio(_) => 1,
-        Call::Send(_, _, _) => 1,
-        Call::Receive(_, _) => 2,
-        Call::Take(_, _) => 1,
-        Call::Give(_) => 1,
-        Call::Now => 1,
-        Call::Yield => 0,
-        Call::Waiting(_) => 1,
-    }
-}
 
 /// A name that must not stand among so many before it.
 #[tactic(auto, unfolding(crate::specs::Calls::once))]

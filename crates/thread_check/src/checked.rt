@@ -1,7 +1,11 @@
-ghost use Rattle.std.specs.Prelude.{◌≡◌, None, IfOk, IfErr};
+ghost use Rattle.std.specs.Prelude.{◌≡◌, ℕ, Some, None, IfOk, IfErr, slice_get};
+ghost use Rattle.thread_tree.specs.declared.block.Stmt.{Stmt};
+ghost use Rattle.thread_tree.specs.Actions.{actions};
 ghost use Rattle.thread_tree.specs.Program.{program_of};
 ghost use Rattle.thread_tree.specs.Limits.{IsWithinLimits, IsSound};
 ghost use Rattle.thread_check.specs.Faults.{fault_of, IsTold};
+ghost use Rattle.thread_check.specs.Fit.{IsFitAction};
+ghost use Rattle.thread_check.specs.Loopless.{AreLooplessFunctions};
 
 use crate::actions::are_few;
 use crate::fault::CheckFault;
@@ -72,6 +76,8 @@ impl Checked {
         ensures accepted { fault_of self.now ≡ None }
         ensures within { IsWithinLimits (program_of self.now) }
         ensures sound { IsSound (program_of self.now) }
+        ensures fit { (number : ℕ) (s : Stmt) → slice_get (actions (program_of self.now)) number ≡ Some s → IsFitAction (program_of self.now) s }
+        ensures loopless { AreLooplessFunctions (program_of self.now) }
     {
         &self.tree
     }

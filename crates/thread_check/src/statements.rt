@@ -6,7 +6,6 @@ ghost use Rattle.thread_check.specs.Blocks.{in_turn};
 ghost use Rattle.thread_check.specs.Statements.{taker, callee_rule, atomic_rule, statement_parts, block_rule, statement_rule};
 
 use crate::blocks::allowed;
-use crate::calls::results;
 use crate::fault::{CheckFault, Kind};
 use crate::names::Names;
 use crate::peak::Peak;
@@ -14,7 +13,7 @@ use crate::scope::Scope;
 use crate::sort::Sort;
 use crate::transactions::Transaction;
 use crate::uses::{same_count, within_limit};
-use thread_tree::{At, Block, List, Place, Stmt, TBlock};
+use thread_tree::{At, Block, List, Place, Stmt, TBlock, kind_of_call, result_count};
 
 impl Scope {
     /// Room for a call of a function with this peak.
@@ -122,7 +121,11 @@ impl<'a> Names<'a> {
             Stmt::Atomic(_, to, body) => self.atomic(to, body, scope),
             Stmt::Call(_, call, to) => {
                 self.call(&scope, call)?;
-                self.takers(&scope, to.len() == results(call), to)?;
+                self.takers(
+                    &scope,
+                    to.len() == result_count(kind_of_call(call), 0) as usize,
+                    to,
+                )?;
                 Ok(scope)
             }
         }

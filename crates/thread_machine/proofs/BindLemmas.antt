@@ -66,30 +66,30 @@ pub declared_all : (first slots : List Local) (names values : List ℕ) (n : ℕ
 declared_all first slots names values n so_far is = so_far ∙ ap (λ xs. first ++ xs) (named_cut names values n is)
 
 -- the action that comes first among things to do
-abbrev next_among : List Thing → Option Action
-next_among todo = elim (next_statement todo) as (λ _. Option Action) [ None ↦ None | Some statement ↦ action_of statement ]
+abbrev next_among : Program → List Thing → Option Action
+next_among p todo = elim (next_statement todo) as (λ _. Option Action) [ None ↦ None | Some statement ↦ action_of p statement ]
 
-next_again : (layer : Stmt-F Stmt Block) (s : Stmt) (rest : List Thing) (a : Action) → next_among (again_of layer s ∷ rest) ≡ Some a → action_of s ≡ Some a
-next_again (stmt.Let at e) s rest a is = is
-next_again (stmt.Set at e) s rest a is = is
-next_again (stmt.Apply to callee arguments) s rest a is = is
-next_again (stmt.If e block other) s rest a is = is
-next_again (stmt.While e block) s rest a is = cc
-next_again (stmt.Ploop place block) s rest a is = is
-next_again (stmt.Break place) s rest a is = is
-next_again (stmt.Return place value) s rest a is = is
-next_again (stmt.Atomic place to block) s rest a is = is
-next_again (stmt.Call place call to) s rest a is = is
+next_again : (p : Program) (layer : Stmt-F Stmt Block) (s : Stmt) (rest : List Thing) (a : Action) → next_among p (again_of layer s ∷ rest) ≡ Some a → action_of p s ≡ Some a
+next_again p (stmt.Let at e) s rest a is = is
+next_again p (stmt.Set at e) s rest a is = is
+next_again p (stmt.Apply to callee arguments) s rest a is = is
+next_again p (stmt.If e block other) s rest a is = is
+next_again p (stmt.While e block) s rest a is = cc
+next_again p (stmt.Ploop place block) s rest a is = is
+next_again p (stmt.Break place) s rest a is = is
+next_again p (stmt.Return place value) s rest a is = is
+next_again p (stmt.Atomic place to block) s rest a is = is
+next_again p (stmt.Call place call to) s rest a is = is
 
-next_head : (again : Bool) (s : Stmt) (stmts : List Stmt) (behind : List Thing) (a : Action) → next_among (to_do again (s ∷ stmts) ++ behind) ≡ Some a → action_of s ≡ Some a
-next_head false s stmts behind a is = is
-next_head true s stmts behind a is = next_again (out-Stmt s) s (map Do stmts ++ behind) a is
+next_head : (p : Program) (again : Bool) (s : Stmt) (stmts : List Stmt) (behind : List Thing) (a : Action) → next_among p (to_do again (s ∷ stmts) ++ behind) ≡ Some a → action_of p s ≡ Some a
+next_head p false s stmts behind a is = is
+next_head p true s stmts behind a is = next_again p (out-Stmt s) s (map Do stmts ++ behind) a is
 
 -- the action that comes next is the statement at hand
-pub action_at : (p : Program) (ctx : Ctx) (s : Stmt) (a : Action) → statement_of p ctx ≡ Some s → next_action (local_of p ctx) ≡ Some a → action_of s ≡ Some a
+pub action_at : (p : Program) (ctx : Ctx) (s : Stmt) (a : Action) → statement_of p ctx ≡ Some s → next_action p (local_of p ctx) ≡ Some a → action_of p s ≡ Some a
 action_at p ctx s a here is =
     let l = level_of p ctx in
-    next_head ctx.again s (drop (ctx.at + 1) l.stmts) l.behind a (sym (ap (λ stmts. next_among (to_do ctx.again stmts ++ l.behind)) (drop_at_item l.stmts ctx.at s here)) ∙ is)
+    next_head p ctx.again s (drop (ctx.at + 1) l.stmts) l.behind a (sym (ap (λ stmts. next_among p (to_do ctx.again stmts ++ l.behind)) (drop_at_item l.stmts ctx.at s here)) ∙ is)
 
 after_head : (again : Bool) (s : Stmt) (stmts : List Stmt) (behind : List Thing) → after_first (to_do again (s ∷ stmts) ++ behind) ≡ map Do stmts ++ behind
 after_head false s stmts behind = refl
@@ -101,28 +101,28 @@ after_at p ctx s here =
     let l = level_of p ctx in
     ap (λ stmts. after_first (to_do ctx.again stmts ++ l.behind)) (drop_at_item l.stmts ctx.at s here) ∙ after_head ctx.again s (drop (ctx.at + 1) l.stmts) l.behind
 
-next_by : (p : Program) (l : Level) (at keep : ℕ) (w : Way) → next_among (level_by p l at keep w).behind ≡ None
+next_by : (p : Program) (l : Level) (at keep : ℕ) (w : Way) → next_among p (level_by p l at keep w).behind ≡ None
 next_by p l at keep way.First = refl
 next_by p l at keep way.Else = refl
 next_by p l at keep way.Call = refl
 
-next_behind : (p : Program) (template : ℕ) (cs : List Cursor) (last : Option Cursor) → slice_get cs (length cs - 1) ≡ last → next_among (level_along p template cs).behind ≡ None
-next_behind p template cs None is = ap (λ xs. next_among (level_along p template xs).behind) (last_none cs is) ∙ ap (λ (l : Level). next_among l.behind) (level_along-none p template)
+next_behind : (p : Program) (template : ℕ) (cs : List Cursor) (last : Option Cursor) → slice_get cs (length cs - 1) ≡ last → next_among p (level_along p template cs).behind ≡ None
+next_behind p template cs None is = ap (λ xs. next_among p (level_along p template xs).behind) (last_none cs is) ∙ ap (λ (l : Level). next_among p l.behind) (level_along-none p template)
 next_behind p template cs (Some c) is =
-    ap (λ xs. next_among (level_along p template xs).behind) (last_is cs c is)
-    ∙ ap (λ (l : Level). next_among l.behind) (level_along-snoc p template (take (length cs - 1) cs) c)
+    ap (λ xs. next_among p (level_along p template xs).behind) (last_is cs c is)
+    ∙ ap (λ (l : Level). next_among p l.behind) (level_along-snoc p template (take (length cs - 1) cs) c)
     ∙ next_by p (level_along p template (take (length cs - 1) cs)) c.at c.keep c.way
 
-next_end : (again : Bool) (behind : List Thing) → next_among (to_do again [] ++ behind) ≡ next_among behind
-next_end false behind = refl
-next_end true behind = refl
+next_end : (p : Program) (again : Bool) (behind : List Thing) → next_among p (to_do again [] ++ behind) ≡ next_among p behind
+next_end p false behind = refl
+next_end p true behind = refl
 
 -- no action comes next at the end of a block
-pub no_action_at_end : (p : Program) (ctx : Ctx) → statement_of p ctx ≡ None → next_action (local_of p ctx) ≡ None
+pub no_action_at_end : (p : Program) (ctx : Ctx) → statement_of p ctx ≡ None → next_action p (local_of p ctx) ≡ None
 no_action_at_end p ctx here =
     let l = level_of p ctx in
-    ap (λ stmts. next_among (to_do ctx.again stmts ++ l.behind)) (drop_at_none l.stmts ctx.at here)
-    ∙ next_end ctx.again l.behind ∙ next_behind p ctx.body ctx.cursors.items (slice_get ctx.cursors.items (length ctx.cursors.items - 1)) refl
+    ap (λ stmts. next_among p (to_do ctx.again stmts ++ l.behind)) (drop_at_none l.stmts ctx.at here)
+    ∙ next_end p ctx.again l.behind ∙ next_behind p ctx.body ctx.cursors.items (slice_get ctx.cursors.items (length ctx.cursors.items - 1)) refl
 
 some_names : (a b : Action) → Some a ≡ Some b → b.names ≡ a.names
 some_names a b is = let e : a ≡ b = cc in ap (λ (x : Action). x.names) (sym e)
@@ -130,21 +130,21 @@ some_names a b is = let e : a ≡ b = cc in ap (λ (x : Action). x.names) (sym e
 some_operands : (a b : Action) → Some a ≡ Some b → b.operands ≡ a.operands
 some_operands a b is = let e : a ≡ b = cc in ap (λ (x : Action). x.operands) (sym e)
 
-action_parts : (layer : Stmt-F Stmt Block) (a : Action) → action_layer layer ≡ Some a → (a.names ≡ taken_by layer) × (a.operands ≡ operands_by layer)
-action_parts (stmt.Let at e) a is = cc
-action_parts (stmt.Set at e) a is = cc
-action_parts (stmt.Apply to callee arguments) a is = cc
-action_parts (stmt.If e block other) a is = cc
-action_parts (stmt.While e block) a is = cc
-action_parts (stmt.Ploop place block) a is = (some_names _ a is, some_operands _ a is)
-action_parts (stmt.Break place) a is = cc
-action_parts (stmt.Return place value) a is = cc
-action_parts (stmt.Atomic place to block) a is = (some_names _ a is, some_operands _ a is)
-action_parts (stmt.Call place call to) a is = (some_names _ a is, some_operands _ a is)
+action_parts : (p : Program) (layer : Stmt-F Stmt Block) (a : Action) → action_layer p layer ≡ Some a → (a.names ≡ taken_by layer) × (a.operands ≡ operands_by layer)
+action_parts p (stmt.Let at e) a is = cc
+action_parts p (stmt.Set at e) a is = cc
+action_parts p (stmt.Apply to callee arguments) a is = cc
+action_parts p (stmt.If e block other) a is = cc
+action_parts p (stmt.While e block) a is = cc
+action_parts p (stmt.Ploop place block) a is = (some_names _ a is, some_operands _ a is)
+action_parts p (stmt.Break place) a is = cc
+action_parts p (stmt.Return place value) a is = cc
+action_parts p (stmt.Atomic place to block) a is = (some_names _ a is, some_operands _ a is)
+action_parts p (stmt.Call place call to) a is = (some_names _ a is, some_operands _ a is)
 
 -- the action at hand takes these names and has these operands
-pub parts_at : (p : Program) (ctx : Ctx) (s : Stmt) (a : Action) → statement_of p ctx ≡ Some s → next_action (local_of p ctx) ≡ Some a → (a.names ≡ taken_by (out-Stmt s)) × (a.operands ≡ operands_by (out-Stmt s))
-parts_at p ctx s a here is = action_parts (out-Stmt s) a (action_at p ctx s a here is)
+pub parts_at : (p : Program) (ctx : Ctx) (s : Stmt) (a : Action) → statement_of p ctx ≡ Some s → next_action p (local_of p ctx) ≡ Some a → (a.names ≡ taken_by (out-Stmt s)) × (a.operands ≡ operands_by (out-Stmt s))
+parts_at p ctx s a here is = action_parts p (out-Stmt s) a (action_at p ctx s a here is)
 
 pub some_and : {X : Type 0} (P : X → Type 0) (o : Option X) → IsSomeAnd o P → (x : X) × (o ≡ Some x) × P x
 some_and P None is = absurd is
@@ -156,18 +156,18 @@ bound_state l base slots next own rest within is =
     rw (is, take_at (take base slots) own base same, drop_at (take base slots) own base same) refl
 
 -- the context behind an action that had these results
-pub bound_local : (p : Program) (ctx : Ctx) (next : ArrayVec Local) (s : Stmt) (a : Action) (names results : List ℕ) → statement_of p ctx ≡ Some s → next_action (local_of p ctx) ≡ Some a → ctx.base ≤ length ctx.slots.items → names ≡ taken_by (out-Stmt s) → next.items ≡ take ctx.base ctx.slots.items ++ with_values (drop ctx.base ctx.slots.items) names results → local_of p (record ctx { slots = next; at = ctx.at + 1; again = false }) ≡ bind (local_of p ctx) results
+pub bound_local : (p : Program) (ctx : Ctx) (next : ArrayVec Local) (s : Stmt) (a : Action) (names results : List ℕ) → statement_of p ctx ≡ Some s → next_action p (local_of p ctx) ≡ Some a → ctx.base ≤ length ctx.slots.items → names ≡ taken_by (out-Stmt s) → next.items ≡ take ctx.base ctx.slots.items ++ with_values (drop ctx.base ctx.slots.items) names results → local_of p (record ctx { slots = next; at = ctx.at + 1; again = false }) ≡ bind p (local_of p ctx) results
 bound_local p ctx next s a names results here is within taken given =
     let l = level_of p ctx in
     let outer = take ctx.base ctx.slots.items in
     let own = drop ctx.base ctx.slots.items in
-    let same : names ≡ next_names (local_of p ctx) = taken ∙ sym (parts_at p ctx s a here is).0 ∙ sym (ap (λ o. elim o as (λ _. List ℕ) [ None ↦ [] | Some action ↦ action.names ]) is) in
+    let same : names ≡ next_names p (local_of p ctx) = taken ∙ sym (parts_at p ctx s a here is).0 ∙ sym (ap (λ o. elim o as (λ _. List ℕ) [ None ↦ [] | Some action ↦ action.names ]) is) in
     bound_state l ctx.base ctx.slots.items next.items (with_values own names results) (rest_of p ctx) within given
     ∙ ap (λ ns. state_at l outer (with_values own ns results) (rest_of p ctx)) same
-    ∙ ap (λ todo. state_at l outer (with_values own (next_names (local_of p ctx)) results) todo) (sym (after_at p ctx s here))
+    ∙ ap (λ todo. state_at l outer (with_values own (next_names p (local_of p ctx)) results) todo) (sym (after_at p ctx s here))
 
 -- it is one of the program
-pub bound_context : (p : Program) (ctx : Ctx) (next : ArrayVec Local) (own : List Local) (values : List ℕ) (a : Action) → IsContext p ctx → next_action (local_of p ctx) ≡ Some a → length values ≡ result_count a.kind a.given → next.items ≡ take ctx.base ctx.slots.items ++ own → local_of p (record ctx { slots = next; at = ctx.at + 1; again = false }) ≡ bind (local_of p ctx) values → IsContext p (record ctx { slots = next; at = ctx.at + 1; again = false })
+pub bound_context : (p : Program) (ctx : Ctx) (next : ArrayVec Local) (own : List Local) (values : List ℕ) (a : Action) → IsContext p ctx → next_action p (local_of p ctx) ≡ Some a → length values ≡ result_count a.kind a.given → next.items ≡ take ctx.base ctx.slots.items ++ own → local_of p (record ctx { slots = next; at = ctx.at + 1; again = false }) ≡ bind p (local_of p ctx) values → IsContext p (record ctx { slots = next; at = ctx.at + 1; again = false })
 bound_context p ctx next own values a context is same given bound = record {
   reached = rw bound (Bound p (local_of p ctx) a values context.reached is same);
   counted = record {
@@ -177,7 +177,7 @@ bound_context p ctx next own values a context is same given bound = record {
 }
 
 -- the value of the operand that was found
-pub operand_value : (p : Program) (ctx : Ctx) (s : Stmt) (which r : ℕ) (found : Option Expr) (o : Option Action) → statement_of p ctx ≡ Some s → next_action (local_of p ctx) ≡ o → found ≡ slice_get (operands_by (out-Stmt s)) which → IfSome found (λ e. r ≡ value_of (local_of p ctx).top.locals e) → IfSome o (λ a. IfSome (slice_get a.operands which) (λ e. r ≡ value_of (local_of p ctx).top.locals e))
+pub operand_value : (p : Program) (ctx : Ctx) (s : Stmt) (which r : ℕ) (found : Option Expr) (o : Option Action) → statement_of p ctx ≡ Some s → next_action p (local_of p ctx) ≡ o → found ≡ slice_get (operands_by (out-Stmt s)) which → IfSome found (λ e. r ≡ value_of (local_of p ctx).top.locals e) → IfSome o (λ a. IfSome (slice_get a.operands which) (λ e. r ≡ value_of (local_of p ctx).top.locals e))
 operand_value p ctx s which r found None here is at value = tt
 operand_value p ctx s which r found (Some a) here is at value =
     rw (parts_at p ctx s a here is).1 (subst (λ o. IfSome o (λ e. r ≡ value_of (local_of p ctx).top.locals e)) at value)

@@ -1,3 +1,4 @@
+pub mod Callers
 mod ListLemmas
 mod ScopeLemmas
 mod BodyLemmas
@@ -14,6 +15,7 @@ mod RunLemmas
 mod SpotLemmas
 mod ReachedLemmas
 mod OwnLemmas
+mod OwnLoopLemmas
 mod OperandLemmas
 mod BindLemmas
 mod Induction

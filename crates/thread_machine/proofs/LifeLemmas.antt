@@ -19,16 +19,16 @@ record_taken : (action : Action) (r : Record) → IsRecordOf action r → record
 record_taken action r is =
     rw (same_test (kind_word action.kind action.given) r.kind is.kind, same_test (result_count action.kind action.given) (length r.results) is.results) refl
 
-taken_by_record : (r : Record) (life : Life) (a : Ahead) (action : Action) → records action r ≡ true → passed_by r life a action ≡ Some (record { local = bind a.local r.results; moves = life.moves + a.moves; passed = life.passed + 1 })
-taken_by_record r life a action is = rw is refl
+taken_by_record : (p : Program) (r : Record) (life : Life) (a : Ahead) (action : Action) → records action r ≡ true → passed_by p r life a action ≡ Some (record { local = bind p a.local r.results; moves = life.moves + a.moves; passed = life.passed + 1 })
+taken_by_record p r life a action is = rw is refl
 
 -- a life passes by the action that it arrives at, with the results of a record of it
-pub passed_is : (p : Program) (r : Record) (life : Life) (statement : Stmt) (action : Action) → (ahead p life.local).arrival ≡ AtAction statement → action_of statement ≡ Some action → IsRecordOf action r → passed p r life ≡ Some (passing p life r)
+pub passed_is : (p : Program) (r : Record) (life : Life) (statement : Stmt) (action : Action) → (ahead p life.local).arrival ≡ AtAction statement → action_of p statement ≡ Some action → IsRecordOf action r → passed p r life ≡ Some (passing p life r)
 passed_is p r life statement action arrives is taken =
     let a = ahead p life.local in
-    ap (λ arrival. elim arrival as (λ _. Option Life) [ AtAction s ↦ option_and_then (λ x. passed_by r life a x) (action_of s) | Finished ↦ None | Watchdog ↦ None ]) arrives
-    ∙ ap (λ o. option_and_then (λ x. passed_by r life a x) o) is
-    ∙ taken_by_record r life a action (record_taken action r taken)
+    ap (λ arrival. elim arrival as (λ _. Option Life) [ AtAction s ↦ option_and_then (λ x. passed_by p r life a x) (action_of p s) | Finished ↦ None | Watchdog ↦ None ]) arrives
+    ∙ ap (λ o. option_and_then (λ x. passed_by p r life a x) o) is
+    ∙ taken_by_record p r life a action (record_taken action r taken)
 
 relived_more : (p : Program) (rs : List Record) (r : Record) (life : Option Life) → relived p (rs ++ r ∷ []) life ≡ option_and_then (passed p r) (relived p rs life)
 relived_more p [] r life = refl

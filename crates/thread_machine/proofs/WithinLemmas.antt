@@ -225,17 +225,17 @@ birth_within p number template arguments fits is =
     }
 
 -- an action leaves no local
-action_declares : (callee : ℕ → Need) (layer : Stmt-F Stmt Block) (action : Action) → action_layer layer ≡ Some action → (weight_parts callee layer).declares ≡ 0
-action_declares callee (stmt.Let at e) action is = cc
-action_declares callee (stmt.Set at e) action is = cc
-action_declares callee (stmt.Apply to function arguments) action is = cc
-action_declares callee (stmt.If e block other) action is = cc
-action_declares callee (stmt.While e block) action is = cc
-action_declares callee (stmt.Ploop place block) action is = refl
-action_declares callee (stmt.Break place) action is = cc
-action_declares callee (stmt.Return place value) action is = cc
-action_declares callee (stmt.Atomic place to block) action is = refl
-action_declares callee (stmt.Call place call to) action is = refl
+action_declares : (p : Program) (callee : ℕ → Need) (layer : Stmt-F Stmt Block) (action : Action) → action_layer p layer ≡ Some action → (weight_parts callee layer).declares ≡ 0
+action_declares p callee (stmt.Let at e) action is = cc
+action_declares p callee (stmt.Set at e) action is = cc
+action_declares p callee (stmt.Apply to function arguments) action is = cc
+action_declares p callee (stmt.If e block other) action is = cc
+action_declares p callee (stmt.While e block) action is = cc
+action_declares p callee (stmt.Ploop place block) action is = refl
+action_declares p callee (stmt.Break place) action is = cc
+action_declares p callee (stmt.Return place value) action is = cc
+action_declares p callee (stmt.Atomic place to block) action is = refl
+action_declares p callee (stmt.Call place call to) action is = refl
 
 length-with_values : (locals : List Local) (names values : List ℕ) → length (with_values locals names values) ≡ length locals
 length-with_values locals [] values = refl
@@ -244,21 +244,21 @@ length-with_values locals (name ∷ names) (value ∷ values) =
     length-with_values (with_value locals name value) names values ∙ length-with_value locals name value
 
 -- what follows an action stays within the limits
-after_action_within : (callee : ℕ → Need) (before blocks count fewer : ℕ) (todo : List Thing) (action : Action) → elim (next_statement todo) as (λ _. Option Action) [ None ↦ None | Some statement ↦ action_of statement ] ≡ Some action → fewer ≡ count → AreWithin callee before blocks count todo → AreWithin callee before blocks fewer (after_first todo)
-after_action_within callee before blocks count fewer [] action is same within = tt
-after_action_within callee before blocks count fewer (Do s ∷ rest) action is same within =
-    let declares = ap (λ (w : Weight). w.declares) (weight_out callee s) ∙ action_declares callee (out-Stmt s) action is in
+after_action_within : (p : Program) (callee : ℕ → Need) (before blocks count fewer : ℕ) (todo : List Thing) (action : Action) → elim (next_statement todo) as (λ _. Option Action) [ None ↦ None | Some statement ↦ action_of p statement ] ≡ Some action → fewer ≡ count → AreWithin callee before blocks count todo → AreWithin callee before blocks fewer (after_first todo)
+after_action_within p callee before blocks count fewer [] action is same within = tt
+after_action_within p callee before blocks count fewer (Do s ∷ rest) action is same within =
+    let declares = ap (λ (w : Weight). w.declares) (weight_out callee s) ∙ action_declares p callee (out-Stmt s) action is in
     fewer_within callee before blocks fewer (count + (weight_of callee s).declares) rest (omega (arith, declares)) within.2
-after_action_within callee before blocks count fewer (End keep ∷ rest) action is same within = cc
-after_action_within callee before blocks count fewer (Test e block ∷ rest) action is same within = cc
-after_action_within callee before blocks count fewer (Turn s ∷ rest) action is same within =
+after_action_within p callee before blocks count fewer (End keep ∷ rest) action is same within = cc
+after_action_within p callee before blocks count fewer (Test e block ∷ rest) action is same within = cc
+after_action_within p callee before blocks count fewer (Turn s ∷ rest) action is same within =
     fewer_within callee before blocks fewer count rest (omega arith) within.2
 
 -- the results of an action stay within the limits
-pub bind_within : (p : Program) (s : LocalState) (action : Action) (results : List ℕ) → next_action s ≡ Some action → IsWithin p s → IsWithin p (bind s results)
+pub bind_within : (p : Program) (s : LocalState) (action : Action) (results : List ℕ) → next_action p s ≡ Some action → IsWithin p s → IsWithin p (bind p s results)
 bind_within p s action results is within = record {
   each = (
-    after_action_within (callees p) (locals_in s.below) (blocks_in s.below) (length s.top.locals) (length (with_values s.top.locals (next_names s) results)) s.top.todo action is (length-with_values s.top.locals (next_names s) results) within.each.0,
+    after_action_within p (callees p) (locals_in s.below) (blocks_in s.below) (length s.top.locals) (length (with_values s.top.locals (next_names p s) results)) s.top.todo action is (length-with_values s.top.locals (next_names p s) results) within.each.0,
     within.each.1,
   );
 }

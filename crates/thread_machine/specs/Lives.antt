@@ -16,7 +16,7 @@ pub record IsRecordOf (action : Action) (r : Record) : Type 0 where
 -- a life that passed an action by with the results of its record
 abbrev pub passing : Program → Life → Record → Life
 passing p life r = let a = ahead p life.local in record {
-  local = bind a.local r.results;
+  local = bind p a.local r.results;
   moves = life.moves + a.moves;
   passed = life.passed + 1;
 }
@@ -25,5 +25,5 @@ passing p life r = let a = ahead p life.local in record {
 pub data Lives : Program → Start → List Record → Life → Type 0 where
   Begins : (p : Program) (start : Start) (s : LocalState) → started p start ≡ Some s → Lives p start [] (begun s)
   Passes : (p : Program) (start : Start) (rs : List Record) (life : Life) (r : Record) (statement : Stmt) (action : Action)
-      → Lives p start rs life → (ahead p life.local).arrival ≡ AtAction statement → action_of statement ≡ Some action
+      → Lives p start rs life → (ahead p life.local).arrival ≡ AtAction statement → action_of p statement ≡ Some action
       → IsRecordOf action r → Lives p start (rs ++ r ∷ []) (passing p life r)

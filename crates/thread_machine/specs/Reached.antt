@@ -16,7 +16,7 @@ pub data Reached : Program → LocalState → Type 0 where
       → slice_get (loops p) number ≡ Some spot → length values ≡ length spot.scope → Reached p (inside spot values)
   Moved : (p : Program) (s t : LocalState) → Reached p s → move p s ≡ Some t → Reached p t
   Bound : (p : Program) (s : LocalState) (action : Action) (results : List ℕ) → Reached p s
-      → next_action s ≡ Some action → length results ≡ result_count action.kind action.given → Reached p (bind s results)
+      → next_action p s ≡ Some action → length results ≡ result_count action.kind action.given → Reached p (bind p s results)
   Turned : (p : Program) (s : LocalState) → Reached p s → Reached p (turn s)
 
 -- a context of a program stands for a state that a thread reaches

@@ -23,11 +23,11 @@ impl Ctx {
     /// goes on behind the action.
     pub fn bind(&mut self, program: &Checked, results: &[u32])
         requires context { IsContext (program_of program.now) self.old }
-        requires action { IsSomeAnd (next_action (local_of (program_of program.now) self.old))
+        requires action { IsSomeAnd (next_action (program_of program.now) (local_of (program_of program.now) self.old))
             (λ action. length results.now ≡ result_count action.kind action.given) }
         ensures context { IsContext (program_of program.now) self.new }
         ensures bound { local_of (program_of program.now) self.new
-            ≡ bind (local_of (program_of program.now) self.old) results.now }
+            ≡ bind (program_of program.now) (local_of (program_of program.now) self.old) results.now }
     {
         match statement_at(self.block(program.tree()), self.at) {
             Some(statement) => {
@@ -43,9 +43,9 @@ impl Ctx {
     /// action in order of the text, counted from 0.
     pub fn operand(&self, program: &Checked, which: u32) -> u32
         requires context { IsContext (program_of program.now) self.now }
-        requires operand { IsSomeAnd (next_action (local_of (program_of program.now) self.now))
+        requires operand { IsSomeAnd (next_action (program_of program.now) (local_of (program_of program.now) self.now))
             (λ action. which < length action.operands) }
-        ensures value { IfSome (next_action (local_of (program_of program.now) self.now)) (λ action.
+        ensures value { IfSome (next_action (program_of program.now) (local_of (program_of program.now) self.now)) (λ action.
             IfSome (slice_get action.operands which)
             (λ e. result ≡ value_of (local_of (program_of program.now) self.now).top.locals e)) }
     {

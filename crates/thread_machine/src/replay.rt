@@ -15,11 +15,11 @@ impl Ctx {
     /// Runs ahead to the next action and passes it by with its recorded results.
     pub fn replay<L: Ledger>(&mut self, program: &Checked, results: &[u32], steps: &mut Steps<L>)
         requires context { IsContext (program_of program.now) self.old }
-        requires action { IsSomeAnd (next_action (ahead (program_of program.now) (local_of (program_of program.now) self.old)).local)
+        requires action { IsSomeAnd (next_action (program_of program.now) (ahead (program_of program.now) (local_of (program_of program.now) self.old)).local)
             (λ action. length results.now ≡ result_count action.kind action.given) }
         ensures context { IsContext (program_of program.now) self.new }
         ensures bound { local_of (program_of program.now) self.new
-            ≡ bind (ahead (program_of program.now) (local_of (program_of program.now) self.old)).local results.now }
+            ≡ bind (program_of program.now) (ahead (program_of program.now) (local_of (program_of program.now) self.old)).local results.now }
         ensures stepped { steps.new
             ≡ steps.old + (ahead (program_of program.now) (local_of (program_of program.now) self.old)).moves }
     {

@@ -1,6 +1,6 @@
 -- A call and its pieces: they fill the places behind its word, and with the word they are all of it.
-use Rattle.std.proofs.Common.{◌≡◌, refl, sym, ap, ap₂, ◌∙◌}
-use Rattle.std.specs.Prelude.{Bool, true, List, [], ◌∷◌, map, Option, Some, None}
+use Rattle.std.proofs.Common.{◌≡◌, refl, sym, ap₂, ◌∙◌}
+use Rattle.std.specs.Prelude.{true, List, [], ◌∷◌, map, Option, Some, None}
 use Rattle.thread_tree.specs.declared.action.Call.{Call}
 use Rattle.thread_tree.specs.declared.action.Call.TheVariants as call
 use Rattle.thread_tree.specs.declared.token.Word.{Word}

@@ -1,11 +1,12 @@
 -- The actions of a program, numbered from 0 in order of the text, and the state in a persistent loop.
-use Rattle.std.specs.Prelude.{ℕ, ◌==◌, Bool, true, false, List, [], ◌∷◌, ◌++◌, length, map, flat_map, filter, Option, Some, None, is_some, slice_get, option_map}
+use Rattle.std.specs.Prelude.{ℕ, Bool, List, [], ◌∷◌, ◌++◌, length, map, flat_map, filter, Option, Some, None, is_some}
+use Rattle.thread_tree.specs.declared.local.Local.{Local}
 use Rattle.thread_tree.specs.declared.block.Block.{Block, para-Block}
 use Rattle.thread_tree.specs.declared.block.Stmt.{Stmt, out-Stmt}
 use Rattle.thread_tree.specs.declared.block.Stmt.TheOpen.{Stmt-F, Block-F}
 use Rattle.thread_tree.specs.declared.block.Stmt.TheOpen as stmt
-use Rattle.thread_tree.specs.Program.{Program, Body}
-use Rattle.thread_tree.specs.LocalState.{Thing, Frame, LocalState, named, loop_block, turn}
+use Rattle.thread_tree.specs.Program.{Program}
+use Rattle.thread_tree.specs.LocalState.{Thing, LocalState, named, loop_block, turn}
 use Rattle.thread_tree.specs.LocalState.Thing.{Do, End, Test, Turn}
 
 -- an action where it stands in its body: the statement, the names of the locals in scope, and what
@@ -14,6 +15,17 @@ pub record Spot : Type 0 where
   pub statement : Stmt
   pub scope : List ℕ
   pub rest : List Thing
+
+-- a statement where it stands
+abbrev pub spot_at : Stmt → List ℕ → List Thing → Spot
+spot_at statement scope rest = record { statement = statement; scope = scope; rest = rest }
+
+-- the names of locals, and their values
+abbrev pub names_in : List Local → List ℕ
+names_in locals = map (λ local. local.name) locals
+
+abbrev pub values_of : List Local → List ℕ
+values_of locals = map (λ local. local.value) locals
 
 -- the spots in a statement, which is given with its scope and what comes after it
 abbrev pub SpotsOf : Type 0
@@ -50,11 +62,11 @@ spots_of_layer (stmt.If e block other) s scope rest =
     block.1 scope (End (length scope) ∷ rest) ++ spots_if_some other scope (End (length scope) ∷ rest)
 spots_of_layer (stmt.While e block) s scope rest = block.1 scope (End (length scope) ∷ Test e block.0 ∷ rest)
 spots_of_layer (stmt.Ploop place block) s scope rest =
-    record { statement = s; scope = scope; rest = rest } ∷ block.1 scope (End (length scope) ∷ Turn s ∷ rest)
+    spot_at s scope rest ∷ block.1 scope (End (length scope) ∷ Turn s ∷ rest)
 spots_of_layer (stmt.Break place) s scope rest = []
 spots_of_layer (stmt.Return place value) s scope rest = []
-spots_of_layer (stmt.Atomic place to block) s scope rest = record { statement = s; scope = scope; rest = rest } ∷ []
-spots_of_layer (stmt.Call place call to) s scope rest = record { statement = s; scope = scope; rest = rest } ∷ []
+spots_of_layer (stmt.Atomic place to block) s scope rest = spot_at s scope rest ∷ []
+spots_of_layer (stmt.Call place call to) s scope rest = spot_at s scope rest ∷ []
 
 -- the spots in statements one after another
 abbrev pub spots_in_turn : List (Stmt × SpotsOf) → SpotsIn

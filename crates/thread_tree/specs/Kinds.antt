@@ -1,5 +1,5 @@
 -- The kinds of a thread's actions, and what each leaves in the thread's records.
-use Rattle.std.specs.Prelude.{ℕ, ◌+◌, ◌-◌, ◌*◌, Bool, true, false, ◌==◌, ◌||◌, if◌then◌else◌, List, [], ◌∷◌, ◌++◌, length, map, flat_map, Option, Some, None, slice_index}
+use Rattle.std.specs.Prelude.{ℕ, ◌+◌, ◌-◌, ◌*◌, Bool, ◌==◌, ◌||◌, if◌then◌else◌, List, [], ◌∷◌, ◌++◌, length, map, flat_map, Option, Some, None, slice_index}
 use Rattle.thread_tree.specs.declared.place.At.{At}
 use Rattle.thread_tree.specs.declared.expr.Expr.{Expr}
 use Rattle.thread_tree.specs.declared.action.Call.{Call}
@@ -12,6 +12,7 @@ use Rattle.thread_tree.specs.declared.block.Stmt.TheOpen.{Stmt-F}
 use Rattle.thread_tree.specs.declared.block.Stmt.TheOpen as stmt
 use Rattle.thread_tree.specs.declared.token.Word.{Word}
 use Rattle.thread_tree.specs.declared.token.Word.TheVariants as word
+use Rattle.thread_tree.specs.Program.{Program}
 use Rattle.thread_tree.specs.Pieces.{Piece, named, valued, whom, itemized, applied, word_of, pieces}
 
 -- the kinds of what isn't a call
@@ -122,21 +123,21 @@ operands_of_call c = operands_of_pieces (pieces c)
 abbrev pub taking : List At → List ℕ
 taking ats = map (λ at. at.name) ats
 
--- the action that a statement is, by its layer; no other statement is one
-abbrev pub action_layer : {S B : Type 0} → Stmt-F S B → Option Action
-action_layer (stmt.Let at e) = None
-action_layer (stmt.Set at e) = None
-action_layer (stmt.Apply to callee arguments) = None
-action_layer (stmt.If e then_block else_block) = None
-action_layer (stmt.While e body) = None
-action_layer (stmt.Ploop place body) = Some (record { kind = turn_kind; given = 0; operands = []; names = [] })
-action_layer (stmt.Break place) = None
-action_layer (stmt.Return place value) = None
-action_layer (stmt.Atomic place to body) =
+-- the action of a program that a statement is, by its layer; no other statement is one
+abbrev pub action_layer : {S B : Type 0} → Program → Stmt-F S B → Option Action
+action_layer p (stmt.Let at e) = None
+action_layer p (stmt.Set at e) = None
+action_layer p (stmt.Apply to callee arguments) = None
+action_layer p (stmt.If e then_block else_block) = None
+action_layer p (stmt.While e body) = None
+action_layer p (stmt.Ploop place body) = Some (record { kind = turn_kind; given = 0; operands = []; names = [] })
+action_layer p (stmt.Break place) = None
+action_layer p (stmt.Return place value) = None
+action_layer p (stmt.Atomic place to body) =
     Some (record { kind = atomic_kind; given = length to - 1; operands = []; names = taking to })
-action_layer (stmt.Call place c to) =
+action_layer p (stmt.Call place c to) =
     Some (record { kind = kind_of_call c; given = 0; operands = operands_of_call c; names = taking to })
 
--- the action that a statement is
-abbrev pub action_of : Stmt → Option Action
-action_of s = action_layer (out-Stmt s)
+-- the action of a program that a statement is
+abbrev pub action_of : Program → Stmt → Option Action
+action_of p s = action_layer p (out-Stmt s)

@@ -11,6 +11,7 @@ pub mod SpellingOfTransactions
 pub mod SpellingOfBlocks
 pub mod SpellingOfDeclarations
 pub mod Program
+pub mod Numbers
 pub mod Value
 pub mod Kinds
 pub mod LocalState

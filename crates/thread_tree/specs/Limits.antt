@@ -1,5 +1,5 @@
 -- The limits of a program that was checked.
-use Rattle.std.specs.Prelude.{◌≡◌, ℕ, ◌≤◌, ◌<◌, ◌==◌, ◌^◌, length, All, Option, Some, None, IfSome, IsSome, find}
+use Rattle.std.specs.Prelude.{◌≡◌, ℕ, ◌≤◌, ◌<◌, ◌==◌, ◌^◌, length, All, Option, IfSome, IsSome, find}
 use Rattle.thread_tree.specs.Program.{Program, Kind, Queue, Semaphore, Template}
 use Rattle.thread_tree.specs.Actions.{actions, loops}
 use Rattle.thread_tree.specs.Need.{Fits, IsSmall, need_of_body, callees}

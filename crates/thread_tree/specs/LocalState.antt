@@ -1,5 +1,5 @@
 -- The local state of a thread: what its locals hold, what is still to do, and its moves.
-use Rattle.std.specs.Prelude.{ℕ, zero, suc, ◌+◌, ◌-◌, ◌==◌, Bool, true, false, if◌then◌else◌, List, [], ◌∷◌, ◌++◌, length, map, take, reverse, zip, flat_map, Option, Some, None, option_map}
+use Rattle.std.specs.Prelude.{ℕ, ◌==◌, if◌then◌else◌, List, [], ◌∷◌, ◌++◌, length, map, take, reverse, flat_map, Option, Some, None, option_map}
 use Rattle.thread_tree.specs.declared.local.Local.{Local}
 use Rattle.thread_tree.specs.declared.place.At.{At}
 use Rattle.thread_tree.specs.declared.expr.Expr.{Expr}
@@ -176,8 +176,8 @@ next_statement (Test e block ∷ rest) = None
 next_statement (Turn statement ∷ rest) = Some statement
 
 -- the action that comes next
-abbrev pub next_action : LocalState → Option Action
-next_action s = elim (next_statement s.top.todo) [ None ↦ None | Some statement ↦ action_of statement ]
+abbrev pub next_action : Program → LocalState → Option Action
+next_action p s = elim (next_statement s.top.todo) [ None ↦ None | Some statement ↦ action_of p statement ]
 
 -- what follows the first thing to do
 abbrev pub after_first : List Thing → List Thing
@@ -185,14 +185,14 @@ after_first [] = []
 after_first (thing ∷ rest) = rest
 
 -- the names that take the results of the action that comes next
-abbrev pub next_names : LocalState → List ℕ
-next_names s = elim (next_action s) [ None ↦ [] | Some action ↦ action.names ]
+abbrev pub next_names : Program → LocalState → List ℕ
+next_names p s = elim (next_action p s) [ None ↦ [] | Some action ↦ action.names ]
 
 -- the state after the action that came next had these results
-abbrev pub bind : LocalState → List ℕ → LocalState
-bind s results = record s {
+abbrev pub bind : Program → LocalState → List ℕ → LocalState
+bind p s results = record s {
   top = record s.top {
-    locals = with_values s.top.locals (next_names s) results;
+    locals = with_values s.top.locals (next_names p s) results;
     todo = after_first s.top.todo;
   };
 }

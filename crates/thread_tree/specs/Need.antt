@@ -1,16 +1,14 @@
 -- What a body needs: how many locals it has at once, and how many blocks are open at once, with
 -- those of the functions that it calls.
-use Rattle.std.specs.Prelude.{◌≡◌, ℕ, ◌+◌, ◌≤◌, ◌==◌, max, if◌then◌else◌, List, [], ◌∷◌, ◌++◌, length, map, All, Option, Some, None}
-use Rattle.thread_tree.specs.declared.tree.Tree.{Tree}
+use Rattle.std.specs.Prelude.{◌≡◌, ℕ, ◌+◌, ◌≤◌, ◌==◌, max, if◌then◌else◌, List, [], ◌∷◌, length, All, Option, Some, None}
 use Rattle.thread_tree.specs.declared.block.Block.{Block, fold-Block}
 use Rattle.thread_tree.specs.declared.block.Stmt.{Stmt, fold-Stmt}
 use Rattle.thread_tree.specs.declared.block.Stmt.TheOpen.{Stmt-F, Block-F}
 use Rattle.thread_tree.specs.declared.block.Stmt.TheOpen as stmt
 use Rattle.thread_tree.specs.declared.transaction.TBlock.{TBlock, fold-TBlock}
-use Rattle.thread_tree.specs.declared.transaction.TStmt.{TStmt, fold-TStmt}
 use Rattle.thread_tree.specs.declared.transaction.TStmt.TheOpen.{TStmt-F, TBlock-F}
 use Rattle.thread_tree.specs.declared.transaction.TStmt.TheOpen as tstmt
-use Rattle.thread_tree.specs.Program.{Program, Function, Template, program_of}
+use Rattle.thread_tree.specs.Program.{Program, Function}
 
 -- the most locals beside those in scope before, and the most blocks beside those open before
 pub record Need : Type 0 where

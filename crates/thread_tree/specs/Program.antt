@@ -1,6 +1,5 @@
 -- A tree's declarations, sorted by what they declare. Each is numbered from 0 in order of the text.
-use Rattle.std.specs.Prelude.{ℕ, ◌+◌, ◌==◌, List, [], ◌∷◌, map, Option, Some, None, option_map, find, slice_index_or}
-use Rattle.thread_tree.specs.declared.name.Name.{Name}
+use Rattle.std.specs.Prelude.{ℕ, ◌==◌, List, [], ◌∷◌, map, Option, option_map, find}
 use Rattle.thread_tree.specs.declared.place.At.{At}
 use Rattle.thread_tree.specs.declared.place.Num.{Num}
 use Rattle.thread_tree.specs.declared.block.Block.{Block}

@@ -1,12 +1,11 @@
 -- Reliving a thread: from its start by the recorded results of its actions.
-use Rattle.std.specs.Prelude.{ℕ, ◌+◌, ◌==◌, ◌&&◌, Bool, true, false, if◌then◌else◌, List, [], ◌∷◌, length, Option, Some, None, slice_get, option_and_then}
-use Rattle.thread_tree.specs.declared.block.Stmt.{Stmt}
-use Rattle.thread_tree.specs.Program.{Program, Template}
+use Rattle.std.specs.Prelude.{ℕ, ◌+◌, ◌==◌, ◌&&◌, Bool, if◌then◌else◌, List, [], ◌∷◌, length, Option, Some, None, slice_get, option_and_then}
+use Rattle.thread_tree.specs.Program.{Program}
 use Rattle.thread_tree.specs.Kinds.{Action, action_of, kind_word, result_count}
 use Rattle.thread_tree.specs.LocalState.{LocalState, birth, bind}
-use Rattle.thread_tree.specs.Ahead.{Ahead, Arrival, ahead}
+use Rattle.thread_tree.specs.Ahead.{Ahead, ahead}
 use Rattle.thread_tree.specs.Ahead.Arrival.{AtAction, Finished, Watchdog}
-use Rattle.thread_tree.specs.Actions.{Spot, loops, inside}
+use Rattle.thread_tree.specs.Actions.{loops, inside}
 
 -- where a thread begins: at its birth, with a template's number and the arguments, or at the last
 -- turn of a persistent loop, with the loop's number and the values of the locals in scope
@@ -41,16 +40,16 @@ abbrev pub records : Action → Record → Bool
 records action r = kind_word action.kind action.given == r.kind && result_count action.kind action.given == length r.results
 
 -- a life that arrived at an action and passes it by with the recorded results
-abbrev pub passed_by : Record → Life → Ahead → Action → Option Life
-passed_by r life a action =
+abbrev pub passed_by : Program → Record → Life → Ahead → Action → Option Life
+passed_by p r life a action =
     if records action r
-    then Some (record { local = bind a.local r.results; moves = life.moves + a.moves; passed = life.passed + 1 })
+    then Some (record { local = bind p a.local r.results; moves = life.moves + a.moves; passed = life.passed + 1 })
     else None
 
 -- a life with one record more
 abbrev pub passed : Program → Record → Life → Option Life
 passed p r life = let a = ahead p life.local in elim a.arrival [
-  | AtAction statement ↦ option_and_then (λ action. passed_by r life a action) (action_of statement)
+  | AtAction statement ↦ option_and_then (λ action. passed_by p r life a action) (action_of p statement)
   | Finished ↦ None
   | Watchdog ↦ None
 ]

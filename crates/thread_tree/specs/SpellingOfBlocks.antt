@@ -1,15 +1,13 @@
 -- Which tokens spell a block of a body.
-use Rattle.std.specs.Prelude.{◌≡◌, Bool, true, false, List, [], ◌∷◌, Option, Some, None}
+use Rattle.std.specs.Prelude.{◌≡◌, false, List, [], ◌∷◌, Some, None}
 use Rattle.thread_tree.specs.declared.expr.Expr.{Expr}
 use Rattle.thread_tree.specs.declared.place.At.{At}
-use Rattle.thread_tree.specs.declared.place.Num.{Num}
 use Rattle.thread_tree.specs.declared.place.Place.{Place}
 use Rattle.thread_tree.specs.declared.token.Mark.TheVariants as mark
 use Rattle.thread_tree.specs.declared.token.Placed.{Placed}
-use Rattle.thread_tree.specs.declared.token.Token.{Token}
 use Rattle.thread_tree.specs.declared.token.Token.TheVariants as token
 use Rattle.thread_tree.specs.declared.token.Word.TheVariants as word
-use Rattle.thread_tree.specs.Spelling.{Placing, Takes, TakesAny, TakesMark, SpellsNameBy, SpellsNamesBy, SpellsExprBy, Separated}
+use Rattle.thread_tree.specs.Spelling.{Placing, Takes, TakesAny, TakesMark, SpellsNameBy, SpellsNamesBy, SpellsExprBy}
 use Rattle.thread_tree.specs.declared.action.Call.{Call}
 use Rattle.thread_tree.specs.declared.block.Block.{Block, out-Block}
 use Rattle.thread_tree.specs.declared.block.Stmt.{Stmt, out-Stmt}

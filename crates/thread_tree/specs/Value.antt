@@ -1,5 +1,5 @@
 -- The value of an expression over the locals in scope.
-use Rattle.std.specs.Prelude.{ℕ, ◌+◌, ◌-◌, ◌*◌, ◌/◌, ◌%◌, ◌^◌, ◌==◌, nat_lt, nat_le, not, Bool, if◌then◌else◌, List, [], ◌∷◌, map, Option, Some, None, find, bit_and, bit_or, bit_xor}
+use Rattle.std.specs.Prelude.{ℕ, ◌+◌, ◌-◌, ◌*◌, ◌/◌, ◌%◌, ◌^◌, ◌==◌, nat_lt, nat_le, not, Bool, if◌then◌else◌, List, [], ◌∷◌, map, bit_and, bit_or, bit_xor}
 use Rattle.thread_tree.specs.declared.local.Local.{Local}
 use Rattle.thread_tree.specs.declared.expr.Op.{Op}
 use Rattle.thread_tree.specs.declared.expr.Op.TheVariants as op

@@ -15,7 +15,7 @@ pub keeps_same : {N : Type 0} (g : Ghosts N) (p : Program) (n : N) (more : ℕ) 
 keeps_same g p n more sound = record {
   frame = refl;
   sound = sound;
-  holes = λ link holes. holes;
+  layout = λ link layout. layout;
   lent = IsLent-same g n;
   within = IsWithin-none g n more;
 }
@@ -27,7 +27,7 @@ keeps_then g p first second third a b c le more x y =
     record {
       frame = y.frame ∙ ap (λ (d : Decoded). record d { heap = (image_in (g.words third)).heap }) x.frame;
       sound = y.sound;
-      holes = λ link holes. y.holes link (x.holes link holes);
+      layout = λ link layout. y.layout link (x.layout link layout);
       lent = IsLent-then g first second third x.lent y.lent;
       within = subst (λ (n : ℕ). IsWithin g first third n) sum (IsWithin-then g first second third (b - a) (c - b) x.within y.within);
     }

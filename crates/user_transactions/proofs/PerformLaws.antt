@@ -43,7 +43,7 @@ pub Keeps-more : {N : Type 0} (g : Ghosts N) (p : Program) (old new : N) (a b : 
 Keeps-more g p old new a b le keeps = record {
   frame = keeps.frame;
   sound = keeps.sound;
-  holes = keeps.holes;
+  layout = keeps.layout;
   lent = keeps.lent;
   within = IsWithin-more g old new a b le keeps.within;
 }

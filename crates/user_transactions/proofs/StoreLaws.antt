@@ -8,7 +8,7 @@ use Rattle.std.specs.Prelude.{◌&&◌}
 use Rattle.std.specs.List.{AllByRecursion}
 use Rattle.std.proofs.lemmas.List.{set_past}
 use Rattle.std.proofs.lemmas.List.Elements.{recursion_from_All}
-use Rattle.kernel_model.specs.Numbers.{fields_of}
+use Rattle.thread_tree.specs.Numbers.{fields_of}
 use Rattle.kernel_model.specs.Sound.{IsLaid, HasKind, AreSoundObjects}
 use Rattle.kernel_model.specs.Objects.{end_of, first_place, object_of, with_field}
 use Rattle.kernel_model.specs.Visible.{Object}

@@ -10,7 +10,7 @@ use Rattle.thread_tree.specs.declared.transaction.TBlock.{TBlock}
 use Rattle.thread_tree.specs.declared.transaction.TStmt.{TStmt}
 use Rattle.thread_tree.specs.declared.transaction.TStmt.TheOpen.{TStmt-F}
 use Rattle.kernel_model.specs.Transactions.Thing.{Do, End, Test}
-use Rattle.persistent_objects.specs.Holes.{KeepsHoles}
+use Rattle.persistent_objects.specs.Layout.{KeepsLayout}
 use Rattle.persistent_objects.specs.Objects.{objects_of}
 use Rattle.thread_tree.specs.declared.expr.FieldOf.{FieldOf}
 use Rattle.thread_tree.specs.Program.{Program}
@@ -42,7 +42,7 @@ IsEnd p (tx_end.Fault fault) d (model.Fault code) = fault ≡ code
 pub record Keeps {N : Type 0} (g : Ghosts N) (p : Program) (old new : N) (more : ℕ) : Type 0 where
   pub frame : image_in (g.words new) ≡ record (image_in (g.words old)) { heap = (image_in (g.words new)).heap }
   pub sound : AreSoundObjects p (objects_of p (image_in (g.words new)))
-  pub holes : KeepsHoles p (image_in (g.words old)) (image_in (g.words new))
+  pub layout : KeepsLayout p (image_in (g.words old)) (image_in (g.words new))
   pub lent : IsLent g old new
   pub within : IsWithin g old new more
 

@@ -6,7 +6,7 @@ ghost use Rattle.undo_journal.specs.Lending.{IsLent, IsWithin};
 ghost use Rattle.kernel_image.specs.Decoded.{image_in};
 ghost use Rattle.kernel_model.specs.Sound.{AreSoundObjects};
 ghost use Rattle.kernel_model.specs.Transactions.{block as performed};
-ghost use Rattle.persistent_objects.specs.Holes.{KeepsHoles};
+ghost use Rattle.persistent_objects.specs.Layout.{KeepsLayout};
 ghost use Rattle.persistent_objects.specs.Objects.{objects_of};
 ghost use Rattle.served_program.specs.Served.{is_served_tblock};
 ghost use Rattle.thread_machine.specs.Context.{local_of};
@@ -97,7 +97,7 @@ pub fn perform<N: Nv>(
     ensures ended { IfOk result (λ end. (s : Statement) (place : Place) (to : List At) (body : Body) → slice_get (actions (program_of program.now)) block ≡ Some s → out-Stmt s ≡ stmt.Atomic place to body
         → IsEnd (program_of program.now) end (image_in (N.words tx.new)) (performed (program_of program.now) (objects_of (program_of program.now) (image_in (N.words tx.old))) (local_of (program_of program.now) ctx.old).top.locals (length to - 1) body)) }
     ensures frame { OnOk result (image_in (N.words tx.new) ≡ record (image_in (N.words tx.old)) { heap = (image_in (N.words tx.new)).heap }) }
-    ensures holes { OnOk result (KeepsHoles (program_of program.now) (image_in (N.words tx.old)) (image_in (N.words tx.new))) }
+    ensures layout { OnOk result (KeepsLayout (program_of program.now) (image_in (N.words tx.old)) (image_in (N.words tx.new))) }
     ensures cut { IsErr result → IsShort (N.left tx.old) 3840 }
     ensures dark { OnErr result (N.left tx.new ≡ Some 0) }
     ensures lent { IsLent N.Nv tx.old tx.new }

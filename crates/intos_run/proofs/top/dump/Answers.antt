@@ -4,7 +4,6 @@ use Rattle.thread_tree.specs.Program.{program_of}
 use Rattle.undo_journal.proofs.Callers.{undone-at_rest}
 use Rattle.kernel_image.specs.Decoded.{image_in}
 use Rattle.kernel_image.specs.Shown.{shown}
-use Rattle.kernel_boots.specs.Boots.{uncut}
 use Rattle.intos_run.proofs.TopLemmas.{nobody_timed, dump_shown}
 use Rattle.intos_run.proofs.top.dump.Goals as goal
 
@@ -12,15 +11,15 @@ pub put_dump-requires : goal.put_dump-requires
 put_dump-requires g c =
     let tree = c.args.program.now in
     let p = program_of tree in
-    let events = c.args.events in
-    let stands = c.requires.stands in
+    let K = c.requires.stands.0 in
+    let stands = c.requires.stands.1 in
     let same = c.in-Ok.ensures.settled ∙ undone-at_rest _ c.requires.at_rest in
     let shows = ap (λ (words : List _). shown p (image_in words)) same ∙ stands.shows in
     record {
-      sound = (uncut p events events, stands.sound, shows);
+      sound = (K, stands.sound, shows);
       no_queues = c.served_laws.ensures.no_queues tree c.requires.served;
       no_semaphores = c.served_laws.ensures.no_semaphores tree c.requires.served;
-      untimed = nobody_timed p _ (uncut p events events) shows (c.served_runs.ensures.untimed tree events events c.requires.served);
+      untimed = nobody_timed p _ K shows c.requires.stands.2;
     }
 
 pub returns-in-Ok-put_dump-clause-words : goal.returns-in-Ok-put_dump-clause-words
@@ -30,13 +29,13 @@ pub returns-in-Err-put_dump-clause-words : goal.returns-in-Err-put_dump-clause-w
 returns-in-Err-put_dump-clause-words g c = ap g.N.Nv.words c.rest-in-Err-put_dump.ensures.same ∙ c.in-Ok.ensures.settled ∙ undone-at_rest _ c.requires.at_rest
 
 pub returns-in-Ok-put_dump-clause-puts : goal.returns-in-Ok-put_dump-clause-puts
-returns-in-Ok-put_dump-clause-puts g c =
+returns-in-Ok-put_dump-clause-puts g c = λ K stands.
     let same = c.in-Ok.ensures.settled ∙ undone-at_rest _ c.requires.at_rest in
     let p = program_of c.args.program.now in
-    c.in-Ok-put_dump.ensures.puts ∙ ap (put_to (g.S.Sink.bytes c.args.sink.now)) (dump_shown p _ _ (uncut p c.args.events c.args.events) same c.requires.stands.shows)
+    c.in-Ok-put_dump.ensures.puts ∙ ap (put_to (g.S.Sink.bytes c.args.sink.now)) (dump_shown p _ _ K same stands.shows)
 
 pub returns-in-Err-put_dump-clause-puts : goal.returns-in-Err-put_dump-clause-puts
-returns-in-Err-put_dump-clause-puts g c =
+returns-in-Err-put_dump-clause-puts g c = λ K stands.
     let same = c.in-Ok.ensures.settled ∙ undone-at_rest _ c.requires.at_rest in
     let p = program_of c.args.program.now in
-    subst (IsPart (g.S.Sink.bytes c.args.sink.now) (g.S.Sink.bytes c.put_dump.new.sink)) (dump_shown p _ _ (uncut p c.args.events c.args.events) same c.requires.stands.shows) c.in-Err-put_dump.ensures.puts
+    subst (IsPart (g.S.Sink.bytes c.args.sink.now) (g.S.Sink.bytes c.put_dump.new.sink)) (dump_shown p _ _ K same stands.shows) c.in-Err-put_dump.ensures.puts

@@ -5,6 +5,7 @@ use Rattle.thread_tree.specs.Program.{program_of}
 use Rattle.replay_list.specs.Kept.{counter_of}
 use Rattle.intos_run.specs.Report.{report}
 use Rattle.intos_run.specs.Runs.{HasBudgets, HasImages, StepsWithin}
+use Rattle.intos_run.specs.Steps.{steps_course}
 use Rattle.intos_run.proofs.TaskLemmas.{same_task, for_task, refused, refused_for_memory}
 use Rattle.intos_run.proofs.top.run.Goals as goal
 
@@ -22,7 +23,7 @@ returns-in-Ok-clause-budgets g c is task asks =
 pub returns-in-Ok-clause-images : goal.returns-in-Ok-clause-images
 returns-in-Ok-clause-images g c is task asks =
     let end = c.run_job.result in
-    for_task (λ t steps cuts. HasImages (program_of t) steps cuts (g.N.Nv.words c.args.nv) (g.N.Nv.ends end.nv) (g.N.Nv.words end.nv)) _ _ _ task
+    for_task (λ t steps cuts. HasImages (steps_course (program_of t) steps) cuts (g.N.Nv.words c.args.nv) (g.N.Nv.ends end.nv) (g.N.Nv.words end.nv)) _ _ _ task
     (same_task _ _ _ _ _ task c.in-Ok.ensures.job asks)
     (c.run_job.ensures.images (begun end.status is))
 
@@ -35,21 +36,21 @@ returns-in-Ok-clause-complete g c is task asks =
 pub returns-in-Ok-clause-text : goal.returns-in-Ok-clause-text
 returns-in-Ok-clause-text g c is task asks =
     let end = c.run_job.result in
-    for_task (λ t steps cuts. g.S.Sink.bytes c.run_job.new.sink ≡ put_to (g.S.Sink.bytes c.args.sink.now) (report (program_of t) steps cuts (g.N.Nv.words c.args.nv) (g.N.Nv.ends end.nv) (g.N.Nv.words end.nv))) _ _ _ task
+    for_task (λ t steps cuts. g.S.Sink.bytes c.run_job.new.sink ≡ put_to (g.S.Sink.bytes c.args.sink.now) (report (steps_course (program_of t) steps) cuts (g.N.Nv.words c.args.nv) (g.N.Nv.ends end.nv) (g.N.Nv.words end.nv))) _ _ _ task
     (same_task _ _ _ _ _ task c.in-Ok.ensures.job asks)
     (c.run_job.ensures.text is)
 
 pub returns-in-Ok-clause-text_so_far : goal.returns-in-Ok-clause-text_so_far
 returns-in-Ok-clause-text_so_far g c is task asks =
     let end = c.run_job.result in
-    for_task (λ t steps cuts. IsPart (g.S.Sink.bytes c.args.sink.now) (g.S.Sink.bytes c.run_job.new.sink) (report (program_of t) steps cuts (g.N.Nv.words c.args.nv) (g.N.Nv.ends end.nv) (g.N.Nv.words end.nv))) _ _ _ task
+    for_task (λ t steps cuts. IsPart (g.S.Sink.bytes c.args.sink.now) (g.S.Sink.bytes c.run_job.new.sink) (report (steps_course (program_of t) steps) cuts (g.N.Nv.words c.args.nv) (g.N.Nv.ends end.nv) (g.N.Nv.words end.nv))) _ _ _ task
     (same_task _ _ _ _ _ task c.in-Ok.ensures.job asks)
     (c.run_job.ensures.part is)
 
 pub returns-in-Ok-clause-steps : goal.returns-in-Ok-clause-steps
 returns-in-Ok-clause-steps g c is task asks =
     let end = c.run_job.result in
-    for_task (λ t steps cuts. StepsWithin (program_of t) steps c.args.steps.now c.run_job.new.steps (g.N.Nv.words c.args.nv) (g.N.Nv.ends end.nv) (g.N.Nv.words end.nv)) _ _ _ task
+    for_task (λ t steps cuts. StepsWithin (steps_course (program_of t) steps) c.args.steps.now c.run_job.new.steps (g.N.Nv.words c.args.nv) (g.N.Nv.ends end.nv) (g.N.Nv.words end.nv)) _ _ _ task
     (same_task _ _ _ _ _ task c.in-Ok.ensures.job asks)
     (c.run_job.ensures.steps (begun end.status is))
 

@@ -39,7 +39,7 @@ pub print-requires-clause-action : goal.print-requires-clause-action
 print-requires-clause-action g c =
     let a = c.requires.arrives in
     let h = c.requires.here in
-    (taking h.2, action-is (program_of c.args.program.now) (image_in (g.N.Nv.words c.args.tx)) c.args.contexts.now a.0 c.args.thread a.1 c.args.ctx c.args.number h.0 a.2 h.3 ∙ ap action_layer h.4)
+    (taking h.2, action-is (program_of c.args.program.now) (image_in (g.N.Nv.words c.args.tx)) c.args.contexts.now a.0 c.args.thread a.1 c.args.ctx c.args.number h.0 a.2 h.3 ∙ ap (action_layer (program_of c.args.program.now)) h.4)
 
 pub print-requires-clause-console : goal.print-requires-clause-console
 print-requires-clause-console g c =

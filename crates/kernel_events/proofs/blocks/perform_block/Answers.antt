@@ -13,7 +13,7 @@ use Rattle.kernel_model.specs.Kernel.{State, Thread}
 use Rattle.kernel_model.specs.Run.{one}
 use Rattle.replay_list.specs.Stands.{KernelStands}
 use Rattle.user_transactions.specs.Works.{IsEnd}
-use Rattle.small_actions.specs.Small.{block_gives}
+use Rattle.thread_check.specs.Gives.{block_gives}
 use Rattle.kernel_events.specs.Blocks.{IsRecordedEvent, IsBound}
 use Rattle.kernel_events.specs.Follows.{Arrives}
 use Rattle.kernel_events.proofs.ArriveLaws.{action-is, statement-here}
@@ -41,11 +41,11 @@ finish_action-requires-clause-action g c =
     let h = c.requires.here in
     let ended = subst (λ end. IsEnd p end now (performed_end p d c.args.contexts.now a.0 c.args.thread a.1 c.args.ctx c.args.number h.0 h.1 h.2 h.3)) c.in-Ok-Gave.field-0-is (c.in-Ok-Gave.ensures.ended h.0 h.1 h.2 h.3 h.4 h.5) in
     let gives : block_gives (length h.2 - 1) h.3 ≡ true = subst (λ n. block_gives n h.3 ≡ true) h.6 h.8 in
-    let many = gave-many p d c.args.contexts.now a.0 c.args.thread a.1 c.args.ctx c.args.number h.0 h.1 h.2 h.3 c.in-Ok-Gave.values now c.small_actions.ensures.block c.small_actions.ensures.statement (omega (arith, h.6, c.requires.few)) gives ended in
-    let is = ap (λ ctx. next_action (local_of p ctx)) c.perform.ensures.same ∙ action-is p d c.args.contexts.now a.0 c.args.thread a.1 c.args.ctx c.args.number h.0 a.2 h.4 ∙ ap action_layer h.5 in
+    let many = gave-many p d c.args.contexts.now a.0 c.args.thread a.1 c.args.ctx c.args.number h.0 h.1 h.2 h.3 c.in-Ok-Gave.values now (omega (arith, h.6, c.requires.few)) gives ended in
+    let is = ap (λ ctx. next_action p (local_of p ctx)) c.perform.ensures.same ∙ action-is p d c.args.contexts.now a.0 c.args.thread a.1 c.args.ctx c.args.number h.0 a.2 h.4 ∙ ap (action_layer p) h.5 in
     let one_more : length c.gave.result.items ≡ suc (length c.in-Ok-Gave.values.items) = ap length c.gave.ensures.results in
     let size : length c.gave.result.items ≡ 1 + (length h.2 - 1) = omega (arith, one_more, many) in
-    next-has (next_action (local_of p c.perform.new.ctx)) (block_action h.2) (length c.gave.result.items) is size
+    next-has (next_action p (local_of p c.perform.new.ctx)) (block_action h.2) (length c.gave.result.items) is size
 
 pub finish_action-requires-clause-fits : goal.finish_action-requires-clause-fits
 finish_action-requires-clause-fits g c =
@@ -56,7 +56,7 @@ finish_action-requires-clause-fits g c =
     let h = c.requires.here in
     let ended = subst (λ end. IsEnd p end now (performed_end p d c.args.contexts.now a.0 c.args.thread a.1 c.args.ctx c.args.number h.0 h.1 h.2 h.3)) c.in-Ok-Gave.field-0-is (c.in-Ok-Gave.ensures.ended h.0 h.1 h.2 h.3 h.4 h.5) in
     let gives : block_gives (length h.2 - 1) h.3 ≡ true = subst (λ n. block_gives n h.3 ≡ true) h.6 h.8 in
-    let many = gave-many p d c.args.contexts.now a.0 c.args.thread a.1 c.args.ctx c.args.number h.0 h.1 h.2 h.3 c.in-Ok-Gave.values now c.small_actions.ensures.block c.small_actions.ensures.statement (omega (arith, h.6, c.requires.few)) gives ended in
+    let many = gave-many p d c.args.contexts.now a.0 c.args.thread a.1 c.args.ctx c.args.number h.0 h.1 h.2 h.3 c.in-Ok-Gave.values now (omega (arith, h.6, c.requires.few)) gives ended in
     let used : (row_at now c.args.thread).used ≡ (row_at d c.args.thread).used = ap (λ (x : Decoded). (row_at x c.args.thread).used) c.in-Ok-Gave.ensures.frame in
     omega (arith, used, many, ap length c.gave.ensures.results, h.6, c.requires.fits)
 
@@ -66,8 +66,8 @@ finish_action-requires-in-Ok-clause-action g c =
     let d = image_in (g.N.Nv.words c.args.tx) in
     let a = c.requires.arrives in
     let h = c.requires.here in
-    let is = ap (λ ctx. next_action (local_of p ctx)) c.perform.ensures.same ∙ action-is p d c.args.contexts.now a.0 c.args.thread a.1 c.args.ctx c.args.number h.0 a.2 h.4 ∙ ap action_layer h.5 in
-    next-has (next_action (local_of p c.perform.new.ctx)) (block_action h.2) (length c.zeros.result.items) is (ap length c.zeros.ensures.results ∙ length-replicate (c.args.given + 1) 0 ∙ omega (arith, h.6))
+    let is = ap (λ ctx. next_action p (local_of p ctx)) c.perform.ensures.same ∙ action-is p d c.args.contexts.now a.0 c.args.thread a.1 c.args.ctx c.args.number h.0 a.2 h.4 ∙ ap (action_layer p) h.5 in
+    next-has (next_action p (local_of p c.perform.new.ctx)) (block_action h.2) (length c.zeros.result.items) is (ap length c.zeros.ensures.results ∙ length-replicate (c.args.given + 1) 0 ∙ omega (arith, h.6))
 
 pub finish_action-requires-in-Ok-clause-fits : goal.finish_action-requires-in-Ok-clause-fits
 finish_action-requires-in-Ok-clause-fits g c =
@@ -93,7 +93,7 @@ returns-in-Ok-Gave-clause-happened g c =
     c.finish_action.ensures.recorded c.finish_action.ensures.bound
     (λ next recorded bound K runner arrives.
     let ended = subst (λ end. IsEnd p end now (performed_end p d c.args.contexts.now K t runner c.args.ctx c.args.number h.0 h.1 h.2 h.3)) c.in-Ok-Gave.field-0-is (c.in-Ok-Gave.ensures.ended h.0 h.1 h.2 h.3 h.4 h.5) in
-    stands-gave p d c.args.contexts.now K t runner c.args.ctx c.args.number h.0 h.1 h.2 h.3 c.in-Ok-Gave.values now (image_in (g.N.Nv.words next)) c.finish_action.new.contexts c.small_actions.ensures.block c.small_actions.ensures.statement (c.standing_laws.ensures.served p) c.soundness.ensures.kept c.tree.ensures.within arrives h.4 h.5 (omega (arith, h.6, c.requires.fits)) (omega (arith, h.6, c.requires.few)) gives ended c.in-Ok-Gave.ensures.frame c.in-Ok-Gave.ensures.holes
+    stands-gave p d c.args.contexts.now K t runner c.args.ctx c.args.number h.0 h.1 h.2 h.3 c.in-Ok-Gave.values now (image_in (g.N.Nv.words next)) c.finish_action.new.contexts (c.standing_laws.ensures.served p) c.soundness.ensures.kept c.tree.ensures.within arrives h.4 h.5 (omega (arith, h.6, c.requires.fits)) (omega (arith, h.6, c.requires.few)) gives ended c.in-Ok-Gave.ensures.frame c.in-Ok-Gave.ensures.layout
     (subst (λ n. IsRecordedEvent t n (1 ∷ c.in-Ok-Gave.values.items) now (image_in (g.N.Nv.words next))) kind (subst (λ results. IsRecordedEvent t (16 + 256 * c.args.given) results now (image_in (g.N.Nv.words next))) c.gave.ensures.results recorded))
     (subst (λ ctx. IsBound p t (1 ∷ c.in-Ok-Gave.values.items) ctx c.args.contexts.now c.finish_action.new.contexts) c.perform.ensures.same (subst (λ results. IsBound p t results c.perform.new.ctx c.args.contexts.now c.finish_action.new.contexts) c.gave.ensures.results bound)))
 

@@ -10,9 +10,9 @@ use Rattle.kernel_events.proofs.printing.item_bytes.Goals as goal
 
 pub operand-requires-clause-operand : goal.operand-requires-clause-operand
 operand-requires-clause-operand c =
-    some_also (next_action (local_of (program_of c.args.program.now) c.args.ctx.now)) (λ action. slice_get action.operands c.args.which ≡ Some c.in-Value.field-1) (λ action. c.args.which < length action.operands) (c.requires.operand c.in-Value.field-0 c.in-Value.field-1 c.in-Value.is) (λ action here. slice_get_within action.operands c.args.which c.in-Value.field-1 here)
+    some_also (next_action (program_of c.args.program.now) (local_of (program_of c.args.program.now) c.args.ctx.now)) (λ action. slice_get action.operands c.args.which ≡ Some c.in-Value.field-1) (λ action. c.args.which < length action.operands) (c.requires.operand c.in-Value.field-0 c.in-Value.field-1 c.in-Value.is) (λ action here. slice_get_within action.operands c.args.which c.in-Value.field-1 here)
 
 pub returns-in-Value : goal.returns-in-Value
 returns-in-Value c = record {
-  bytes = c.digits.ensures.digits ∙ value_printed (next_action (local_of (program_of c.args.program.now) c.args.ctx.now)) c.args.which c.operand.result (local_of (program_of c.args.program.now) c.args.ctx.now).top.locals c.args.item.now c.in-Value.field-0 c.in-Value.field-1 c.in-Value.is (c.requires.operand c.in-Value.field-0 c.in-Value.field-1 c.in-Value.is) c.operand.ensures.value;
+  bytes = c.digits.ensures.digits ∙ value_printed (next_action (program_of c.args.program.now) (local_of (program_of c.args.program.now) c.args.ctx.now)) c.args.which c.operand.result (local_of (program_of c.args.program.now) c.args.ctx.now).top.locals c.args.item.now c.in-Value.field-0 c.in-Value.field-1 c.in-Value.is (c.requires.operand c.in-Value.field-0 c.in-Value.field-1 c.in-Value.is) c.operand.ensures.value;
 }

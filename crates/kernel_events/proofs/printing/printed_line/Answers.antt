@@ -12,7 +12,7 @@ use Rattle.kernel_events.proofs.printing.printed_line.Goals as goal
 
 pub item_bytes-piece-requires-clause-operand : goal.item_bytes-piece-requires-clause-operand
 item_bytes-piece-requires-clause-operand c = λ place e is.
-    some_also (next_action (local_of (program_of c.args.program.now) c.args.ctx.now)) (λ action. action.operands ≡ flat_map operands_of_item c.args.items.now) (λ action. slice_get action.operands c.loop-at.which ≡ Some e) c.requires.action
+    some_also (next_action (program_of c.args.program.now) (local_of (program_of c.args.program.now) c.args.ctx.now)) (λ action. action.operands ≡ flat_map operands_of_item c.args.items.now) (λ action. slice_get action.operands c.loop-at.which ≡ Some e) c.requires.action
     (λ action same. rw same (rw c.loop-at.invariant.1 (operand_here c.args.items.now c.loop-at.at c.get-item.result.now place e c.get-item.ensures is)))
 
 pub loop-at-preserved : goal.loop-at-preserved

@@ -1,4 +1,5 @@
 -- The laws of who is served first.
+use Rattle.std.proofs.Common.{ap, slice_get}
 use Rattle.kernel_model.proofs.OrderLemmas.{head_of_line, empty_line}
 use Rattle.kernel_model.proofs.OrderLaws as order
 use Rattle.kernel_model.proofs.ShownLaws as shown
@@ -33,3 +34,6 @@ returns-clause-first_receiver c = shown.first_receiver
 
 pub returns-clause-first_taker : goal.returns-clause-first_taker
 returns-clause-first_taker c = shown.first_taker
+
+pub returns-clause-none_first : goal.returns-clause-none_first
+returns-clause-none_first c = λ test K none. ap (λ line. slice_get line 0) (order.no_line test K none)

@@ -2,6 +2,7 @@
 use Rattle.kernel_model.proofs.StartLemmas.{initial-sound}
 use Rattle.kernel_model.proofs.ActLemmas.{one-sound}
 use Rattle.kernel_model.proofs.RunLaws.{one-counts, on-counts, run-sound, after-zero, after-next}
+use Rattle.kernel_model.proofs.StampLaws.{one-stamps, initial-stamps, stamp-past, stamps-apart}
 use Rattle.kernel_model.proofs.laws.soundness.Goals as goal
 
 pub returns-clause-initial : goal.returns-clause-initial
@@ -24,3 +25,15 @@ returns-clause-begins c = after-zero
 
 pub returns-clause-goes_on : goal.returns-clause-goes_on
 returns-clause-goes_on c = after-next
+
+pub returns-clause-stamps : goal.returns-clause-stamps
+returns-clause-stamps c = one-stamps
+
+pub returns-clause-first_stamp : goal.returns-clause-first_stamp
+returns-clause-first_stamp c = initial-stamps
+
+pub returns-clause-past : goal.returns-clause-past
+returns-clause-past c = stamp-past
+
+pub returns-clause-apart : goal.returns-clause-apart
+returns-clause-apart c = stamps-apart

@@ -15,7 +15,7 @@ returns-in-Some c = record {
       record {
         later = c.bind.new.self;
         context = c.bind.ensures.context;
-        bound = c.bind.ensures.bound ∙ ap (λ (x : Ctx). bind (local_of (program_of c.args.program.now) x) c.args.results.now) same;
+        bound = c.bind.ensures.bound ∙ ap (λ (x : Ctx). bind (program_of c.args.program.now) (local_of (program_of c.args.program.now) x) c.args.results.now) same;
         put = c.set.ensures.put
             ∙ ap (λ (l : List (Option Ctx)). slice_set l c.args.thread (Some c.bind.new.self)) c.in-Some.ensures.left
             ∙ set-set c.args.contexts.now c.args.thread _ _;

@@ -44,6 +44,7 @@ returns-clause-opened c p row thread s activity life ready at unfinished = recor
   words = life.words;
   relived = c.replay.ensures.opened p (start_in row) life.records thread life.relived s activity ready at unfinished;
   used = life.used;
+  few = life.few;
 }
 
 pub returns-clause-life_kept : goal.returns-clause-life_kept

@@ -14,7 +14,7 @@ pub returns-in-Some-clause-bound : goal.returns-in-Some-clause-bound
 returns-in-Some-clause-bound c =
     let p = program_of c.args.program.now in
     let s = c.args.self.now in
-    let a = some_and (λ (a : Action). length c.args.results.now ≡ result_count a.kind a.given) (next_action (local_of p s)) c.requires.action in
+    let a = some_and (λ (a : Action). length c.args.results.now ≡ result_count a.kind a.given) (next_action p (local_of p s)) c.requires.action in
     bound_local p s c.give_results.new.slots c.in-Some.statement.now a.0 (names_if_some (option_copied c.names_taking.result)) c.args.results.now
     (sym (c.in-Some.ensures.found ∙ ap (λ xs. slice_get xs s.at) (rw (← c.tree.ensures.same) c.block.ensures.found))) a.1 c.requires.context.counted.within c.names_taking.ensures.names c.give_results.ensures.given
 
@@ -22,7 +22,7 @@ pub returns-in-Some-clause-context : goal.returns-in-Some-clause-context
 returns-in-Some-clause-context c =
     let p = program_of c.args.program.now in
     let s = c.args.self.now in
-    let a = some_and (λ (a : Action). length c.args.results.now ≡ result_count a.kind a.given) (next_action (local_of p s)) c.requires.action in
+    let a = some_and (λ (a : Action). length c.args.results.now ≡ result_count a.kind a.given) (next_action p (local_of p s)) c.requires.action in
     bound_context p s c.give_results.new.slots (with_values (drop s.base s.slots.items) (names_if_some (option_copied c.names_taking.result)) c.args.results.now) c.args.results.now a.0 c.requires.context a.1 a.2 c.give_results.ensures.given
     (bound_local p s c.give_results.new.slots c.in-Some.statement.now a.0 (names_if_some (option_copied c.names_taking.result)) c.args.results.now
     (sym (c.in-Some.ensures.found ∙ ap (λ xs. slice_get xs s.at) (rw (← c.tree.ensures.same) c.block.ensures.found))) a.1 c.requires.context.counted.within c.names_taking.ensures.names c.give_results.ensures.given)
@@ -31,6 +31,6 @@ pub returns-in-None-clause-bound : goal.returns-in-None-clause-bound
 returns-in-None-clause-bound c =
     let p = program_of c.args.program.now in
     let s = c.args.self.now in
-    let a = some_and (λ (a : Action). length c.args.results.now ≡ result_count a.kind a.given) (next_action (local_of p s)) c.requires.action in
+    let a = some_and (λ (a : Action). length c.args.results.now ≡ result_count a.kind a.given) (next_action p (local_of p s)) c.requires.action in
     let none = no_action_at_end p s (sym (c.in-None.ensures.found ∙ ap (λ xs. slice_get xs s.at) (rw (← c.tree.ensures.same) c.block.ensures.found))) in
     absurd (some_is_none a.0 (sym a.1 ∙ none))

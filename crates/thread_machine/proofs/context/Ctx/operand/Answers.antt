@@ -12,7 +12,7 @@ returns-in-Some-operand_in c =
     let p = program_of c.args.program.now in
     let s = c.args.self.now in
     record {
-      value = operand_value p s c.in-Some.statement.now c.args.which c.evaluate.result (Some c.in-Some-operand_in.e.now) (next_action (local_of p s))
+      value = operand_value p s c.in-Some.statement.now c.args.which c.evaluate.result (Some c.in-Some-operand_in.e.now) (next_action p (local_of p s))
           (sym (c.in-Some.ensures.found ∙ ap (λ xs. slice_get xs s.at) (rw (← c.tree.ensures.same) c.block.ensures.found))) refl c.in-Some-operand_in.ensures.found (rw (← c.own.ensures.own) c.evaluate.ensures.value);
     }
 
@@ -21,7 +21,7 @@ returns-in-None-operand_in c =
     let p = program_of c.args.program.now in
     let s = c.args.self.now in
     record {
-      value = operand_value p s c.in-Some.statement.now c.args.which 0 None (next_action (local_of p s))
+      value = operand_value p s c.in-Some.statement.now c.args.which 0 None (next_action p (local_of p s))
           (sym (c.in-Some.ensures.found ∙ ap (λ xs. slice_get xs s.at) (rw (← c.tree.ensures.same) c.block.ensures.found))) refl c.in-None-operand_in.ensures.found tt;
     }
 

@@ -1,9 +1,0 @@
-mod Rules
-mod Induction
-mod Layers
-mod Gives
-mod Kept
-mod Spots
-mod Declared
-mod Moves
-mod Lives
