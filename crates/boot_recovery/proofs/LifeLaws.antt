@@ -1,19 +1,14 @@
 -- Reliving a thread record after record.
-use Rattle.std.proofs.Common.{◌≡◌, ◌≢◌, ℕ, zero, suc, ◌+◌, ◌-◌, ◌*◌, ◌/◌, ◌%◌, ◌<◌, ◌≤◌, ◌==◌, List, [], ◌∷◌, ◌++◌, Bool, true, false, refl, ap, sym, subst, ◌∙◌, arith, length, take, drop, slice_index, append_assoc, length-append, length-drop}
+use Rattle.std.proofs.Common.{◌≡◌, ◌≢◌, ℕ, zero, suc, ◌+◌, ◌-◌, ◌<◌, ◌≤◌, List, [], ◌∷◌, ◌++◌, Bool, true, false, refl, ap, sym, subst, ◌∙◌, arith, length, take, drop, slice_index, append_assoc, length-append, length-drop}
 use Rattle.std.proofs.lemmas.Bool.Decides.{nat_tests}
 use Rattle.std.proofs.lemmas.Option.{none-some}
 use Rattle.std.proofs.lemmas.List.{take-append-drop, drop_more, get_or-drop, length-take-le}
 use Rattle.std.proofs.lemmas.List.Sums.{sum_by-cons}
 use Rattle.std.proofs.Math.Seq.{take-append_seam, drop-append_seam, drop-nil}
 use Rattle.std.specs.Prelude.{if◌then◌else◌, Option, Some, None, sum_by, option_and_then, IsSomeAnd}
-use Rattle.thread_tree.specs.declared.action.Call.{Call}
-use Rattle.thread_tree.specs.declared.action.Call.TheVariants as call
-use Rattle.thread_tree.specs.declared.block.Block.{Block}
-use Rattle.thread_tree.specs.declared.block.Stmt.{Stmt, out-Stmt}
-use Rattle.thread_tree.specs.declared.block.Stmt.TheOpen.{Stmt-F}
-use Rattle.thread_tree.specs.declared.block.Stmt.TheOpen as stmt
+use Rattle.thread_tree.specs.declared.block.Stmt.{Stmt}
 use Rattle.thread_tree.specs.Program.{Program}
-use Rattle.thread_tree.specs.Kinds.{Action, action_of, action_layer, kind_of_call, kind_word, result_count}
+use Rattle.thread_tree.specs.Kinds.{Action, action_of, kind_word, result_count}
 use Rattle.thread_tree.specs.LocalState.{LocalState, next_action, bind}
 use Rattle.thread_tree.specs.Ahead.{Ahead, Arrival, ahead}
 use Rattle.thread_tree.specs.Ahead.Arrival.{AtAction, Finished, Watchdog}
@@ -23,7 +18,6 @@ use Rattle.kernel_model.specs.Relived.{is_open, life_of, words_in}
 use Rattle.kernel_model.proofs.Callers.{ahead-before}
 use Rattle.kernel_image.specs.Agree.{IsThread}
 use Rattle.kernel_image.specs.Decoded.{RowWords}
-use Rattle.boot_recovery.proofs.Choices.{by_test}
 use Rattle.replay_list.specs.Records.{encoded, recorded, results_of, start_in}
 use Rattle.replay_list.specs.Stands.{IsLife}
 use Rattle.replay_list.proofs.Callers.{results_told}

@@ -1,15 +1,14 @@
 -- The words of a thread's row, one by one.
-use Rattle.std.proofs.Common.{◌≡◌, ◌≢◌, ℕ, ◌+◌, ◌-◌, ◌<◌, ◌≤◌, [], ◌∷◌, ◌++◌, true, false, inl, inr, refl, ap, sym, ◌∙◌, arith, length, take, drop, slice_index, length-drop}
+use Rattle.std.proofs.Common.{◌≡◌, ◌≢◌, ℕ, ◌+◌, ◌-◌, ◌<◌, [], ◌∷◌, ◌++◌, true, false, refl, ap, ◌∙◌, arith, length, take, drop, slice_index, length-drop}
 use Rattle.std.proofs.lemmas.Bool.Decides.{nat_tests}
-use Rattle.std.proofs.lemmas.List.{take_all, take_more, get_or-drop}
+use Rattle.std.proofs.lemmas.List.{take_more, get_or-drop}
 use Rattle.std.proofs.lemmas.List.FromFn.{get_or-map-range_with_len, length-map-range_with_len}
-use Rattle.std.proofs.lemmas.Bool.{cases_lt}
-use Rattle.std.specs.Prelude.{nat_lt, min, ◌&&◌, IsTrue}
+use Rattle.std.specs.Prelude.{nat_lt, ◌&&◌, IsTrue}
 use Rattle.kernel_model.specs.Kernel.{Activity}
 use Rattle.kernel_model.specs.Kernel.Activity.{Ready, Delayed, Waiting}
 use Rattle.kernel_model.specs.Relived.{is_open}
 use Rattle.kernel_image.specs.declared.cell.Cell.{Cell}
-use Rattle.kernel_image.specs.declared.cell.Cell.TheVariants.{RowWord, StartValue, RecordWord}
+use Rattle.kernel_image.specs.declared.cell.Cell.TheVariants.{RowWord, RecordWord}
 use Rattle.kernel_image.specs.Agree.{Does}
 use Rattle.kernel_image.specs.Decoded.{RowWords, decoded_of, listed, row_of, row_at}
 use Rattle.kernel_image.proofs.Callers.{row_at-decoded}

@@ -14,12 +14,12 @@ use crate::formatting::format;
 use crate::rows::restore_all;
 use crate::starting::formatting_stands;
 use kernel_image::formatting_shows_the_start;
-use nv_memory::Nv;
+use nv_memory::{Nv, WORDS};
 use replay_list::Kernel;
 use std::sync::ledger::Ledger;
 use step_counter::Steps;
 use thread_check::Checked;
-use undo_journal::{Dark, Idle, MAGIC, settle};
+use undo_journal::{Dark, Idle, MAGIC, MAGIC_WORD, settle};
 
 // Undoes the journal of a formatted device.
 fn undo<N: Nv, L: Ledger>(
@@ -53,16 +53,16 @@ fn make<N: Nv, L: Ledger>(
     steps: &mut Steps<L>,
 ) -> Result<Idle<N>, Dark<N>>
     requires blank { slice_index (N.words nv) 0 ≡ 0 }
-    ensures dark { IsErr result ↔ IsShort (N.left nv) 16384 }
+    ensures dark { IsErr result ↔ IsShort (N.left nv) WORDS }
     ensures stands { IfOk result (λ idle. Stands (program_of program.now) (image_in (N.words idle)) (initial (program_of program.now))) }
     ensures at_rest { IfOk result (λ idle. IsAtRest (N.words idle)) }
     ensures blank { IfErr result (λ dark. slice_index (N.words dark) 0 ≡ 0) }
     ensures begun { IfErr result (λ dark. IsBegunWith (program_of program.now) (N.left nv) (N.words nv) (N.words dark)) }
-    ensures left { MatchResult result (λ idle. N.left idle ≡ spent (N.left nv) 16384) (λ dark. N.left dark ≡ Some 0) }
+    ensures left { MatchResult result (λ idle. N.left idle ≡ spent (N.left nv) WORDS) (λ dark. N.left dark ≡ Some 0) }
     ensures to_come { MatchResult result (λ idle. N.to_come idle ≡ N.to_come nv) (λ dark. N.to_come dark ≡ N.to_come nv) }
     ensures ends { MatchResult result (λ idle. N.ends idle ≡ N.ends nv) (λ dark. N.ends dark ≡ N.ends nv) }
     ensures counted { steps.old ≤ steps.new }
-    ensures steps { steps.new ≤ steps.old + 16384 }
+    ensures steps { steps.new ≤ steps.old + WORDS }
 {
     formatting_shows_the_start();
     formatting_stands();
@@ -97,7 +97,7 @@ fn ready<N: Nv, L: Ledger>(
     ensures counted { steps.old ≤ steps.new }
     ensures steps { steps.new ≤ steps.old + recovering (N.words nv) }
 {
-    if nv.read(0) == MAGIC {
+    if nv.read(MAGIC_WORD) == MAGIC {
         let idle = undo(nv, program, steps)?;
         return Ok(idle);
     }

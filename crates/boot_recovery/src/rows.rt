@@ -8,11 +8,12 @@ ghost use Rattle.replay_list.specs.Stands.{IsRow, HasContext};
 ghost use Rattle.boot_recovery.specs.Remaining.{age_in};
 
 use crate::restoring::restore;
-use kernel_image::{Cell, load};
+use kernel_image::{Cell, FREE, STATE, load};
 use std::sync::ledger::Ledger;
 use step_counter::Steps;
 use thread_check::Checked;
 use thread_machine::{Contexts, Ctx};
+use thread_tree::ROWS;
 use undo_journal::Words;
 
 // The context of the thread of a row; none where no live thread is.
@@ -22,13 +23,13 @@ fn restore_row<W: Words, L: Ledger>(
     thread: u32,
     steps: &mut Steps<L>,
 ) -> Option<Ctx>
-    requires thread { thread < 16 }
+    requires thread { thread < ROWS }
     requires stands { (known : Row) × IsRow (program_of program.now) (row_at (image_in (W.present words.now)) thread) known }
     ensures restored { (known : Row) → IsRow (program_of program.now) (row_at (image_in (W.present words.now)) thread) known → HasContext (program_of program.now) result known }
     ensures stepped { (known : Row) → IsRow (program_of program.now) (row_at (image_in (W.present words.now)) thread) known → steps.new ≡ steps.old + age_in known }
 {
-    let state = load(words, Cell::RowWord(thread, 0));
-    if state == 0 {
+    let state = load(words, Cell::RowWord(thread, STATE));
+    if state == FREE {
         return None;
     }
     if 3 < state {
@@ -49,7 +50,7 @@ pub(crate) fn restore_all<W: Words, L: Ledger>(
     ensures stepped { (rows : List Row) → Both (IsRow (program_of program.now)) (image_in (W.present words.now)).rows rows → steps.new ≡ steps.old + sum_by age_in rows }
 {
     let mut contexts = Contexts::none();
-    for thread in 0..16 {
+    for thread in 0..ROWS as u32 {
         let ctx = restore_row(words, program, thread, steps);
         contexts.set(thread, ctx);
     }

@@ -9,15 +9,16 @@ ghost use Rattle.boot_report.specs.Lines.{passed_in, replayed};
 use replay_list::{record_count, standing_laws};
 use thread_check::Checked;
 use thread_machine::Contexts;
+use thread_tree::{RECORD_WORDS, ROWS};
 use undo_journal::Words;
 
 // How many records a thread has, and none where no thread lives.
 fn passed<W: Words>(words: &W, contexts: &Contexts, program: &Checked, thread: u32) -> u32
-    requires thread { thread < 16 }
+    requires thread { thread < ROWS }
     requires stands { (K : State) × KernelStands (program_of program.now) (image_in (W.present words.now)) contexts.now K }
     ensures passed { (K : State) → KernelStands (program_of program.now) (image_in (W.present words.now)) contexts.now K
         → result ≡ passed_in (row_of K thread) }
-    ensures few { result ≤ 256 }
+    ensures few { result ≤ RECORD_WORDS }
 {
     standing_laws();
     let _ = program.tree();
@@ -34,7 +35,7 @@ pub(crate) fn passed_by_all<W: Words>(words: &W, contexts: &Contexts, program: &
         → result ≡ replayed K }
 {
     let mut all = 0;
-    for thread in 0..16 {
+    for thread in 0..ROWS as u32 {
         all += passed(words, contexts, program, thread);
     }
     all

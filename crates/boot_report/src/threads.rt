@@ -14,11 +14,11 @@ ghost use Rattle.boot_report.specs.Lines.{locals_text, thread_lines};
 ghost use Rattle.boot_report.specs.Parts.{found_in, line_by, lines_by, local_text};
 
 use kernel_dump::{Line, Sort, bytes_of, name_at};
-use kernel_image::{Cell, load};
+use kernel_image::{Cell, TEMPLATE, load};
 use outer_world::{Sink, SinkFault};
 use thread_check::Checked;
 use thread_machine::{Contexts, Ctx};
-use thread_tree::Local;
+use thread_tree::{LOCALS, Local, ROWS};
 use undo_journal::Words;
 
 // A line with a local and its value behind it.
@@ -36,7 +36,7 @@ fn with_local(line: Line, program: &Checked, local: Local) -> Line
 
 // A line with locals behind it.
 fn with_locals(line: Line, program: &Checked, locals: &[Local]) -> Line
-    requires few { length locals.now ≤ 48 }
+    requires few { length locals.now ≤ LOCALS }
     requires room { length line ≤ 100 }
     ensures text { result ≡ line ++ locals_text (program_of program.now) locals.now }
     ensures len { length result < 2048 }
@@ -51,7 +51,7 @@ fn with_locals(line: Line, program: &Checked, locals: &[Local]) -> Line
 // The line of a thread of this template with these locals.
 #[tactic(auto, unfolding(crate::specs::Parts::line_by))]
 fn line_of(number: u32, program: &Checked, thread: u32, template: u32, locals: &[Local]) -> Line
-    requires few { length locals.now ≤ 48 }
+    requires few { length locals.now ≤ LOCALS }
     ensures text { result ≡ line_by number (program_of program.now) thread template locals.now }
     ensures len { length result < 2048 }
 {
@@ -68,12 +68,12 @@ fn line_of(number: u32, program: &Checked, thread: u32, template: u32, locals: &
 // The line of a thread that has this context.
 #[tactic(auto, using(kernel_image::proofs::Callers::image_laws))]
 fn line_in<W: Words>(words: &W, ctx: &Ctx, program: &Checked, number: u32, thread: u32) -> Line
-    requires thread { thread < 16 }
+    requires thread { thread < ROWS }
     requires context { IsContext (program_of program.now) ctx.now }
     ensures text { result ≡ line_by number (program_of program.now) thread (row_at (image_in (W.present words.now)) thread).template (locals_of (local_of (program_of program.now) ctx.now)) }
     ensures len { length result < 2048 }
 {
-    let template = load(words, Cell::RowWord(thread, 1));
+    let template = load(words, Cell::RowWord(thread, TEMPLATE));
     let locals = ctx.locals(program);
     line_of(number, program, thread, template, locals.as_slice())
 }
@@ -87,7 +87,7 @@ fn put_thread<W: Words, S: Sink>(
     number: u32,
     thread: u32,
 ) -> Result<(), SinkFault>
-    requires thread { thread < 16 }
+    requires thread { thread < ROWS }
     requires context { IsContext (program_of program.now) ctx.now }
     ensures puts { Puts result (S.bytes sink.old) (S.bytes sink.new)
         (text_of (line_by number (program_of program.now) thread (row_at (image_in (W.present words.now)) thread).template (locals_of (local_of (program_of program.now) ctx.now)) ∷ [])) }
@@ -106,7 +106,7 @@ fn put_row<W: Words, S: Sink>(
     number: u32,
     thread: u32,
 ) -> Result<(), SinkFault>
-    requires thread { thread < 16 }
+    requires thread { thread < ROWS }
     requires context { IfSome (found_in contexts.now thread) (IsContext (program_of program.now)) }
     ensures puts { Puts result (S.bytes sink.old) (S.bytes sink.new)
         (text_of (lines_by number (program_of program.now) thread (row_at (image_in (W.present words.now)) thread).template (found_in contexts.now thread))) }
@@ -134,7 +134,7 @@ pub(crate) fn put_threads<W: Words, S: Sink>(
         → Puts result (S.bytes sink.old) (S.bytes sink.new) (text_of (thread_lines number (program_of program.now) 0 K.rows)) }
     ensures cause { HasCause (S.faults sink.old) (S.faults sink.new) result }
 {
-    for thread in 0..16 {
+    for thread in 0..ROWS as u32 {
         put_row(words, contexts, program, sink, number, thread)?;
     }
     Ok(())

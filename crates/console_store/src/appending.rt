@@ -8,12 +8,10 @@ ghost use Rattle.kernel_image.specs.Shown.{byte_of};
 ghost use Rattle.console_store.specs.Console.{IsAppended, bytes_in, byte_in_word, grown_byte};
 
 use crate::reading::{byte_in, length};
-use kernel_image::{Cell, load, store};
+use kernel_image::{CONSOLE_LENGTH, Cell, load, store};
 use nv_memory::{Cut, Nv};
+use thread_tree::CONSOLE_BYTES;
 use undo_journal::Open;
-
-/// The most bytes of a console.
-const ROOM: u32 = 8_192;
 
 // Byte `at` of a console of this length with bytes behind it, of which this word has the old ones; 0 behind them all.
 fn grown_byte(word: u32, len: u32, bytes: &[u8], at: u32) -> u8
@@ -44,7 +42,7 @@ fn grown_word(word: u32, len: u32, bytes: &[u8], i: u32) -> u32
 fn store_words<N: Nv>(tx: &mut Open<N>, len: u32, bytes: &[u8]) -> Result<(), Cut>
     requires some { 0 < length bytes.now }
     requires few { length bytes.now ≤ 640 }
-    requires within { len + length bytes.now ≤ 8192 }
+    requires within { len + length bytes.now ≤ CONSOLE_BYTES }
     requires length { len ≡ (image_in (N.words tx.old)).console_length }
     requires room { (length bytes.now + 6) / 4 ≤ room_of (N.words tx.old) }
     ensures cut { IsErr result → IsShort (N.left tx.old) (4 * ((length bytes.now + 6) / 4)) }
@@ -67,9 +65,9 @@ fn store_words<N: Nv>(tx: &mut Open<N>, len: u32, bytes: &[u8]) -> Result<(), Cu
 /// into, and one for the length. On `Cut` fewer writes were left than that takes, and none is left.
 pub fn append<N: Nv>(tx: &mut Open<N>, bytes: &[u8]) -> Result<bool, Cut>
     requires few { length bytes.now ≤ 640 }
-    requires console { (image_in (N.words tx.old)).console_length ≤ 8192 }
+    requires console { (image_in (N.words tx.old)).console_length ≤ CONSOLE_BYTES }
     requires room { (length bytes.now + 6) / 4 + 1 ≤ room_of (N.words tx.old) }
-    ensures fits { IfOk result (λ fits. fits ≡ nat_le ((image_in (N.words tx.old)).console_length + length bytes.now) 8192) }
+    ensures fits { IfOk result (λ fits. fits ≡ nat_le ((image_in (N.words tx.old)).console_length + length bytes.now) CONSOLE_BYTES) }
     ensures appended { IfOk result (λ fits. fits ≡ true → IsAppended bytes.now (image_in (N.words tx.old)) (image_in (N.words tx.new))) }
     ensures same { IfOk result (λ fits. fits ≡ false → N.words tx.new ≡ N.words tx.old) }
     ensures cut { IsErr result → IsShort (N.left tx.old) (4 * ((length bytes.now + 6) / 4 + 1)) }
@@ -79,13 +77,13 @@ pub fn append<N: Nv>(tx: &mut Open<N>, bytes: &[u8]) -> Result<bool, Cut>
 {
     let len = length(tx);
     let grown = len + bytes.len() as u32;
-    if grown > ROOM {
+    if grown > CONSOLE_BYTES {
         return Ok(false);
     }
     if bytes.is_empty() {
         return Ok(true);
     }
     store_words(tx, len, bytes)?;
-    store(tx, Cell::Header(5), grown)?;
+    store(tx, Cell::Header(CONSOLE_LENGTH), grown)?;
     Ok(true)
 }

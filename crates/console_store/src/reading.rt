@@ -4,7 +4,8 @@ ghost use Rattle.kernel_image.specs.Decoded.{image_in};
 ghost use Rattle.kernel_image.specs.Shown.{byte_of};
 ghost use Rattle.console_store.specs.Console.{byte_in_word};
 
-use kernel_image::{Cell, load};
+use kernel_image::{CONSOLE_LENGTH, Cell, load};
+use thread_tree::CONSOLE_BYTES;
 use undo_journal::Words;
 
 /// Byte `at` of the console in the word that holds it and three more.
@@ -21,13 +22,13 @@ pub(crate) fn byte_in(word: u32, at: u32) -> u8
 pub fn length<W: Words>(words: &W) -> u32
     ensures length { result ≡ (image_in (W.present words.now)).console_length }
 {
-    load(words, Cell::Header(5))
+    load(words, Cell::Header(CONSOLE_LENGTH))
 }
 
 /// Byte `at` of the console, 0 to 8,191, which means something only below its length.
 #[tactic(auto, using(crate::proofs::Images::console_word))]
 pub fn byte<W: Words>(words: &W, at: u32) -> u8
-    requires within { at < 8192 }
+    requires within { at < CONSOLE_BYTES }
     ensures byte { result ≡ byte_of (image_in (W.present words.now)).console at }
 {
     byte_in(load(words, Cell::ConsoleWord(at / 4)), at)

@@ -21,6 +21,7 @@ use Rattle.fault_places.specs.Sorts.{used_as_kind, used_as_thread}
 use Rattle.fault_places.specs.Found.{Found, leaves, found_by, ◌+>◌, ◌+>=◌}
 use Rattle.fault_places.specs.OfBlocks.{Walk}
 use Rattle.fault_places.specs.OfStatements.{block_walk}
+use Rattle.thread_tree.specs.declared.limits.TheConstants.{TARGETS, ROWS, DECLARED, ITEMS}
 
 -- the faults of the name of a declaration, of whose sort there may be so many
 abbrev pub declared_faults : Names → Decl → Kind → ℕ → At → List CheckFault
@@ -64,28 +65,28 @@ unfoldable pub declaration_walk : Names → ℕ → Decl → Found Scope
 declaration_walk names loops (decl.Kind name fields) =
     declared_faults names (decl.Kind name fields) kind.Types 32 name +> fields_faults [] fields +> leaves (no_scope loops)
 declaration_walk names loops (decl.Object name type_name) =
-    declared_faults names (decl.Object name type_name) kind.Objects 64 name
+    declared_faults names (decl.Object name type_name) kind.Objects DECLARED name
     +> found_by (used_as_kind (with_declaration (decl.Object name type_name) names) (no_scope loops) type_name)
     +> leaves (no_scope loops)
 declaration_walk names loops (decl.Queue name capacity channel) =
-    declared_faults names (decl.Queue name capacity channel) kind.Queues 16 name
-    +> found_by (in_range capacity 1 48)
+    declared_faults names (decl.Queue name capacity channel) kind.Queues TARGETS name
+    +> found_by (in_range capacity 1 ITEMS)
     +> channel_faults names channel
     +> leaves (no_scope loops)
 declaration_walk names loops (decl.Semaphore name count maximum) =
-    declared_faults names (decl.Semaphore name count maximum) kind.Semaphores 16 name
+    declared_faults names (decl.Semaphore name count maximum) kind.Semaphores TARGETS name
     +> found_by (in_range count 0 maximum.value)
     +> found_by (in_range maximum 1 65535)
     +> leaves (no_scope loops)
 declaration_walk names loops (decl.Function name parameters body) =
-    declared_faults names (decl.Function name parameters body) kind.Functions 64 name
+    declared_faults names (decl.Function name parameters body) kind.Functions DECLARED name
     +> (parameters_walk (with_declaration (decl.Function name parameters body) names) parameters (no_scope loops)
     +>= λ scope. block_walk (record names { in_function = true }) body scope)
 declaration_walk names loops (decl.Thread name parameters priority body) =
     declared_faults names (decl.Thread name parameters priority body) kind.Threads 32 name
     +> thread_body_walk (with_declaration (decl.Thread name parameters priority body) names) parameters priority body (no_scope loops)
 declaration_walk names loops (decl.Start place name numbers) =
-    found_by (within_limit place kind.Starts 16 (count_of (sort_of_declaration (decl.Start place name numbers)) names.declarations + 1))
+    found_by (within_limit place kind.Starts ROWS (count_of (sort_of_declaration (decl.Start place name numbers)) names.declarations + 1))
     +> (found_by (used_as_thread names (no_scope loops) name) ++ found_by (same_count name.place (arity names name.name) (length numbers)))
     +> leaves (no_scope loops)
 

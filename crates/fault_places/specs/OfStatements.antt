@@ -20,6 +20,7 @@ use Rattle.fault_places.specs.OfExpressions.{expression_faults, expressions_faul
 use Rattle.fault_places.specs.OfCalls.{takers_faults, call_faults}
 use Rattle.fault_places.specs.OfBlocks.{Walk, new_local_faults, walk_if_some, walk_block, walk_loop}
 use Rattle.fault_places.specs.OfTransactions.{tblock_walk}
+use Rattle.thread_tree.specs.declared.limits.TheConstants.{START_VALUES, LOCALS, BLOCKS, LOOPS}
 
 -- the faults of a local that takes a result, if there is one
 unfoldable pub taker_faults : Names → Scope → Option At → List CheckFault
@@ -29,8 +30,8 @@ taker_faults names scope (Some at) = found_by (used_as_local names scope at)
 -- the faults of a callee that needs too many locals or blocks beside those in scope
 abbrev pub room_faults : Names → Scope → At → List CheckFault
 room_faults names scope callee =
-    found_by (within_limit callee.place kind.Locals 48 (length scope.locals + (peak_of names callee.name).locals))
-    ++ found_by (within_limit callee.place kind.Nesting 24 (scope.blocks + (peak_of names callee.name).blocks))
+    found_by (within_limit callee.place kind.Locals LOCALS (length scope.locals + (peak_of names callee.name).locals))
+    ++ found_by (within_limit callee.place kind.Nesting BLOCKS (scope.blocks + (peak_of names callee.name).blocks))
 
 -- the faults of a callee with so many arguments
 abbrev pub callee_faults : Names → Scope → At → ℕ → List CheckFault
@@ -42,7 +43,7 @@ callee_faults names scope callee count =
 abbrev pub ploop_faults : Names → Place → Scope → List CheckFault
 ploop_faults names place scope =
     found_by (allowed place (not names.in_function))
-    ++ (found_by (within_limit place kind.Loops 64 (scope.loops + 1)) ++ found_by (within_limit place kind.Scope 16 (length scope.locals)))
+    ++ (found_by (within_limit place kind.Loops LOOPS (scope.loops + 1)) ++ found_by (within_limit place kind.Scope START_VALUES (length scope.locals)))
 
 -- the faults of an `atomic` block
 unfoldable pub atomic_walk : Names → List At → TBlock → Walk

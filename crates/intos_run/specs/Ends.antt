@@ -17,6 +17,8 @@ use Rattle.intos_run.specs.Report.{goes_dark, start_lines, cut_boot, last_boot}
 use Rattle.intos_run.specs.Runs.{restoring}
 use Rattle.intos_run.specs.declared.boot.BootEnd.{BootEnd}
 use Rattle.intos_run.specs.declared.boot.BootEnd.TheVariants.{Done, Cut, SinkFailed}
+use Rattle.thread_tree.specs.declared.limits.TheConstants.{MOVES}
+use Rattle.kernel_events.specs.declared.writes.TheConstants.{EVENT_WRITES}
 
 -- a fact for each way in which a boot ends
 abbrev pub MatchEnd : {N : Type 0} → BootEnd N → (N → Type 0) → (N → Type 0) → (N → Type 0) → Type 0
@@ -35,7 +37,7 @@ HasEndCause end before now = MatchEnd end (λ _. now ≡ before) (λ _. now ≡ 
 -- the steps of a boot are at most those of its recovery, and 10,000 for each event that it committed and for one more
 abbrev pub BootSteps : Course → ℕ → ℕ → List ℕ → List ℕ → Type 0
 BootSteps c old new before left =
-    new + 10000 * counter_of before ≤ old + restoring c before + 10000 * (counter_of left + 1)
+    new + MOVES * counter_of before ≤ old + restoring c before + MOVES * (counter_of left + 1)
 
 -- the words that a recovered kernel left are kept for a kernel of the course that counts at least n events
 pub record IsWorked (c : Course) (n : ℕ) (words : List ℕ) : Type 0 where
@@ -60,7 +62,7 @@ pub record EndsDone {N : Type 0} (g : Ghosts N) (c : Course) (number undone n : 
 pub record EndsCut {N : Type 0} (g : Ghosts N) (c : Course) (number undone n : ℕ) (idle : N) (old new : Option (List ℕ)) (nv : N) : Type 0 where
   pub worked : IsWorked c n (g.words nv)
   pub some : counter_of (g.words nv) < last c
-  pub progress : IsShort (g.left idle) (6400 * (counter_of (g.words nv) + 1 - n))
+  pub progress : IsShort (g.left idle) (EVENT_WRITES * (counter_of (g.words nv) + 1 - n))
   pub dark : g.left nv ≡ Some 0
   pub spent : IsSpent g idle nv
   pub text : new ≡ put_to old (text_of (live_lines c number undone n (counter_of (g.words nv))))

@@ -13,6 +13,7 @@ use Rattle.kernel_boots.specs.Courses.{Course, uncut, last}
 use Rattle.intos_run.specs.Boots.{IsLater, IsCutBoot, EachBoot}
 use Rattle.intos_run.specs.Report.{goes_dark, before_last, cut_boots, start_lines, report}
 use Rattle.boot_report.specs.Lines.{end_line}
+use Rattle.thread_tree.specs.declared.limits.TheConstants.{MOVES}
 
 -- the steps that a recovery from these words of the run may take
 abbrev pub restoring : Course → List ℕ → ℕ
@@ -26,7 +27,7 @@ recovered c first (left ∷ ends) = restoring c first + recovered c left ends
 -- the steps are at most those of the recoveries of all boots, and 10,000 for each event and each boot
 abbrev pub StepsWithin : Course → ℕ → ℕ → List ℕ → List (List ℕ) → List ℕ → Type 0
 StepsWithin c old new first ends left =
-    new ≤ old + recovered c first ends + restoring c (before_last first ends) + 10000 * (counter_of left + length ends + 1)
+    new ≤ old + recovered c first ends + restoring c (before_last first ends) + MOVES * (counter_of left + length ends + 1)
 
 -- the budgets that a device has: the one that counts now, and those to come; on mains none
 abbrev pub budgets_of : Option ℕ → List ℕ → List ℕ

@@ -21,6 +21,7 @@ use replay_list::Kernel;
 use std::sync::ledger::Ledger;
 use step_counter::Steps;
 use thread_check::Checked;
+use thread_tree::MOVES;
 use undo_journal::{Dark, MAGIC};
 
 /// The word that is `MAGIC` on a formatted device.
@@ -71,7 +72,7 @@ fn live<N: Nv, W: World, S: Sink, L: Ledger>(
     ensures same { W.events world.new ≡ W.events world.old }
     ensures floor { EachEnd result (λ nv. W.floor world.new ≤ counter_of (N.words nv)) }
     ensures counted { counter.old ≤ counter.new }
-    ensures steps { EachEnd result (λ nv. counter.new + 10000 * (image_in (N.words kernel.idle)).events ≤ counter.old + 10000 * (counter_of (N.words nv) + 1)) }
+    ensures steps { EachEnd result (λ nv. counter.new + MOVES * (image_in (N.words kernel.idle)).events ≤ counter.old + MOVES * (counter_of (N.words nv) + 1)) }
 {
     beginning();
     if put_begin(&kernel, program, sink, number, undone).is_err() {

@@ -11,7 +11,7 @@ ghost use Rattle.kernel_boots.specs.Boots.{IsSpent};
 ghost use Rattle.kernel_boots.specs.Courses.{course, IsUnderWay, IsLive, AreSteps};
 
 use crate::world::World;
-use kernel_events::happen;
+use kernel_events::{EVENT_WRITES, perform_event};
 use kernel_image::counter as events_of;
 use kernel_model::soundness;
 use nv_memory::Nv;
@@ -19,6 +19,7 @@ use replay_list::{Kernel, standing_laws};
 use std::sync::ledger::Ledger;
 use step_counter::Steps;
 use thread_check::Checked;
+use thread_tree::MOVES;
 use undo_journal::Dark;
 
 /// The power was cut in the midst of an event: the dark device, and how many events are committed.
@@ -61,14 +62,14 @@ pub fn work<N: Nv, W: World, L: Ledger>(
         (λ next. (image_in (N.words kernel.idle)).events ≤ (image_in (N.words next.idle)).events)
         (λ stopped. (image_in (N.words kernel.idle)).events ≤ stopped.events) }
     ensures no_write_left { IfErr result (λ stopped. N.left stopped.dark ≡ Some 0) }
-    ensures progress { IfErr result (λ stopped. IsShort (N.left kernel.idle) (6400 * (stopped.events + 1 - (image_in (N.words kernel.idle)).events))) }
+    ensures progress { IfErr result (λ stopped. IsShort (N.left kernel.idle) (EVENT_WRITES * (stopped.events + 1 - (image_in (N.words kernel.idle)).events))) }
     ensures spent { MatchResult result (λ next. IsSpent N.Nv kernel.idle next.idle) (λ stopped. IsSpent N.Nv kernel.idle stopped.dark) }
     ensures same { W.events world.new ≡ W.events world.old }
     ensures floor { MatchResult result (λ next. W.floor world.new ≡ (image_in (N.words next.idle)).events) (λ stopped. W.floor world.new ≡ stopped.events) }
     ensures counted { counter.old ≤ counter.new }
     ensures steps { MatchResult result
-        (λ next. counter.new + 10000 * (image_in (N.words kernel.idle)).events ≤ counter.old + 10000 * (image_in (N.words next.idle)).events)
-        (λ stopped. counter.new + 10000 * (image_in (N.words kernel.idle)).events ≤ counter.old + 10000 * (stopped.events + 1)) }
+        (λ next. counter.new + MOVES * (image_in (N.words kernel.idle)).events ≤ counter.old + MOVES * (image_in (N.words next.idle)).events)
+        (λ stopped. counter.new + MOVES * (image_in (N.words kernel.idle)).events ≤ counter.old + MOVES * (stopped.events + 1)) }
 {
     soundness();
     standing_laws();
@@ -77,7 +78,7 @@ pub fn work<N: Nv, W: World, L: Ledger>(
     let mut contexts = contexts;
     let mut events = events_of(&idle);
     while let Some(event) = world.next(events) {
-        match happen(idle, program, &mut contexts, event, counter) {
+        match perform_event(idle, program, &mut contexts, event, counter) {
             Ok(next) => {
                 idle = next;
                 events += 1;

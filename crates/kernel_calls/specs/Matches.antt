@@ -14,10 +14,11 @@ use Rattle.kernel_image.specs.Unread.{IsUnread}
 use Rattle.persistent_objects.specs.Layout.{IsLaidOut}
 use Rattle.ready_delay_lists.specs.Lists.{AreListed}
 use Rattle.replay_list.specs.Stands.{IsContextOf, HasLife, HasContext, items_in, counts_in, console_in}
+use Rattle.thread_tree.specs.declared.limits.TheConstants.{ROWS}
 
 -- the number of a caller that is nobody
 abbrev pub nobody : ℕ
-nobody = 16
+nobody = ROWS
 
 -- the row of the caller as its life is read: as if the thread were delayed, so that it stands at its call, which is open
 abbrev pub seen_row : Bool → kernel.Row → kernel.Row

@@ -19,6 +19,7 @@ use nv_memory::{Cut, Nv};
 use replay_list::Outcome;
 use thread_check::Checked;
 use thread_machine::Contexts;
+use thread_tree::{ROWS, TARGETS};
 use undo_journal::Open;
 
 /// What the calls of the kernel and a tick are made of.
@@ -36,7 +37,7 @@ pub trait KernelCalls {
         thread: u32,
         results: &[u32],
     ) -> Result<(), Cut>
-        requires thread { thread < 16 }
+        requires thread { thread < ROWS }
         requires few { length results.now ≤ 4 }
         requires awaited { (caller : ℕ) × (whose : ℕ → Bool) × (K : State) × (known : Thread) × IsAwaited (program_of program.now) caller whose (image_in (N.words tx.old)) contexts.old K thread known results.now }
         requires room { 23 ≤ room_of (N.words tx.old) }
@@ -56,7 +57,7 @@ pub trait KernelCalls {
         thread: u32,
         results: &[u32],
     ) -> Result<(), Cut>
-        requires thread { thread < 16 }
+        requires thread { thread < ROWS }
         requires few { length results.now ≤ 4 }
         requires serving { (whose : ℕ → Bool) × (K : State) × (known : Thread) × IsServing (program_of program.now) whose (image_in (N.words tx.old)) contexts.old K thread known results.now }
         requires room { 6 ≤ room_of (N.words tx.old) }
@@ -70,8 +71,8 @@ pub trait KernelCalls {
 
     /// Lets the caller, 0 to 15, wait behind its equals.
     fn block<N: Nv>(tx: &mut Open<N>, thread: u32, wait: Wait) -> Result<(), Cut>
-        requires thread { thread < 16 }
-        requires target { wait.target < 16 }
+        requires thread { thread < ROWS }
+        requires target { wait.target < TARGETS }
         requires value { wait.value ≡ value_for wait.what wait.value }
         requires calling { (p : Program) × (whose : ℕ → Bool) × (contexts : List (Option Ctx)) × (K : State) × (known : Thread) × IsCalling p whose thread (image_in (N.words tx.old)) contexts K known }
         requires room { 34 ≤ room_of (N.words tx.old) }
@@ -85,7 +86,7 @@ pub trait KernelCalls {
 
     /// Delays the caller, 0 to 15, until a tick.
     fn sleep<N: Nv>(tx: &mut Open<N>, thread: u32, wake: u32) -> Result<(), Cut>
-        requires thread { thread < 16 }
+        requires thread { thread < ROWS }
         requires calling { (p : Program) × (whose : ℕ → Bool) × (contexts : List (Option Ctx)) × (K : State) × (known : Thread) × IsCalling p whose thread (image_in (N.words tx.old)) contexts K known }
         requires room { 20 ≤ room_of (N.words tx.old) }
         ensures asleep { OnOk result ((p : Program) (whose : ℕ → Bool) (contexts : List (Option Ctx)) (K : State) (known : Thread) → IsCalling p whose thread (image_in (N.words tx.old)) contexts K known
@@ -105,8 +106,8 @@ pub trait KernelCalls {
         value: u32,
         limit: u32,
     ) -> Result<Outcome, Cut>
-        requires thread { thread < 16 }
-        requires target { target < 16 }
+        requires thread { thread < ROWS }
+        requires target { target < TARGETS }
         requires value { value ≡ value_for what value }
         requires calling { (p : Program) × (whose : ℕ → Bool) × (contexts : List (Option Ctx)) × (K : State) × (known : Thread) × IsCalling p whose thread (image_in (N.words tx.old)) contexts K known }
         requires room { 34 ≤ room_of (N.words tx.old) }
@@ -126,7 +127,7 @@ pub trait KernelCalls {
         thread: u32,
         outcome: Outcome,
     ) -> Result<(), Cut>
-        requires thread { thread < 16 }
+        requires thread { thread < ROWS }
         requires acted { (whose : ℕ → Bool) × (effect : Effect) × IsActed (program_of program.now) whose thread (image_in (N.words tx.old)) contexts.old effect outcome }
         requires room { 6 ≤ room_of (N.words tx.old) }
         ensures settled { OnOk result ((whose : ℕ → Bool) (effect : Effect) → IsActed (program_of program.now) whose thread (image_in (N.words tx.old)) contexts.old effect outcome

@@ -10,6 +10,7 @@ mod kernel_calls;
 mod laws;
 mod over_lists;
 mod queue_calls;
+mod room;
 mod semaphore_calls;
 mod task_calls;
 
@@ -19,5 +20,6 @@ pub use laws::{
 };
 pub use over_lists::{block, hold, serve, settle, sleep, wake};
 pub use queue_calls::QueueCalls;
+pub use room::CALL_ROOM;
 pub use semaphore_calls::SemaphoreCalls;
 pub use task_calls::TaskCalls;

@@ -22,6 +22,7 @@ use ready_delay_lists::{ListCalls, list_laws};
 use replay_list::{Outcome, finish};
 use thread_check::Checked;
 use thread_machine::Contexts;
+use thread_tree::{ROWS, TARGETS};
 use undo_journal::{Open, Words};
 
 /// Gives the caller, 0 to 15, the results of its action, as `serve` of `KernelCalls`.
@@ -32,7 +33,7 @@ pub fn serve<N: Nv>(
     thread: u32,
     results: &[u32],
 ) -> Result<(), Cut>
-    requires thread { thread < 16 }
+    requires thread { thread < ROWS }
     requires few { length results.now ≤ 4 }
     requires serving { (whose : ℕ → Bool) × (K : State) × (known : Thread) × IsServing (program_of program.now) whose (image_in (N.words tx.old)) contexts.old K thread known results.now }
     requires room { 6 ≤ room_of (N.words tx.old) }
@@ -53,7 +54,7 @@ pub fn serve<N: Nv>(
 
 /// Delays the caller, 0 to 15, until a tick, as `sleep` of `KernelCalls`.
 pub fn sleep<L: ListCalls, N: Nv>(tx: &mut Open<N>, thread: u32, wake: u32) -> Result<(), Cut>
-    requires thread { thread < 16 }
+    requires thread { thread < ROWS }
     requires calling { (p : Program) × (whose : ℕ → Bool) × (contexts : List (Option Ctx)) × (K : State) × (known : Thread) × IsCalling p whose thread (image_in (N.words tx.old)) contexts K known }
     requires room { 20 ≤ room_of (N.words tx.old) }
     ensures asleep { OnOk result ((p : Program) (whose : ℕ → Bool) (contexts : List (Option Ctx)) (K : State) (known : Thread) → IsCalling p whose thread (image_in (N.words tx.old)) contexts K known
@@ -73,8 +74,8 @@ pub fn sleep<L: ListCalls, N: Nv>(tx: &mut Open<N>, thread: u32, wake: u32) -> R
 
 /// Lets the caller, 0 to 15, wait behind its equals, as `block` of `KernelCalls`.
 pub fn block<L: ListCalls, N: Nv>(tx: &mut Open<N>, thread: u32, wait: Wait) -> Result<(), Cut>
-    requires thread { thread < 16 }
-    requires target { wait.target < 16 }
+    requires thread { thread < ROWS }
+    requires target { wait.target < TARGETS }
     requires value { wait.value ≡ value_for wait.what wait.value }
     requires calling { (p : Program) × (whose : ℕ → Bool) × (contexts : List (Option Ctx)) × (K : State) × (known : Thread) × IsCalling p whose thread (image_in (N.words tx.old)) contexts K known }
     requires room { 34 ≤ room_of (N.words tx.old) }
@@ -101,7 +102,7 @@ pub fn wake<L: ListCalls, N: Nv>(
     thread: u32,
     results: &[u32],
 ) -> Result<(), Cut>
-    requires thread { thread < 16 }
+    requires thread { thread < ROWS }
     requires few { length results.now ≤ 4 }
     requires awaited { (caller : ℕ) × (whose : ℕ → Bool) × (K : State) × (known : Thread) × IsAwaited (program_of program.now) caller whose (image_in (N.words tx.old)) contexts.old K thread known results.now }
     requires room { 23 ≤ room_of (N.words tx.old) }
@@ -130,7 +131,7 @@ pub fn settle<N: Nv>(
     thread: u32,
     outcome: Outcome,
 ) -> Result<(), Cut>
-    requires thread { thread < 16 }
+    requires thread { thread < ROWS }
     requires acted { (whose : ℕ → Bool) × (effect : Effect) × IsActed (program_of program.now) whose thread (image_in (N.words tx.old)) contexts.old effect outcome }
     requires room { 6 ≤ room_of (N.words tx.old) }
     ensures settled { OnOk result ((whose : ℕ → Bool) (effect : Effect) → IsActed (program_of program.now) whose thread (image_in (N.words tx.old)) contexts.old effect outcome
@@ -183,8 +184,8 @@ pub fn hold<L: ListCalls, N: Nv>(
     value: u32,
     limit: u32,
 ) -> Result<Outcome, Cut>
-    requires thread { thread < 16 }
-    requires target { target < 16 }
+    requires thread { thread < ROWS }
+    requires target { target < TARGETS }
     requires value { value ≡ value_for what value }
     requires calling { (p : Program) × (whose : ℕ → Bool) × (contexts : List (Option Ctx)) × (K : State) × (known : Thread) × IsCalling p whose thread (image_in (N.words tx.old)) contexts K known }
     requires room { 34 ≤ room_of (N.words tx.old) }

@@ -4,10 +4,6 @@ use Rattle.outer_world.proofs.Callers.{put_nothing}
 use Rattle.kernel_dump.proofs.Declarations.{bytes_of_at, bytes_of_past, name_of_found, name_of_none, field_name_at, field_count_is, fields_few}
 use Rattle.kernel_dump.proofs.ObjectLines.{heap_word_in, heap_word_past, live_word, object_found, object_none}
 use Rattle.kernel_dump.proofs.Spaced.{lines_of_none, lines_of_some}
-use Rattle.kernel_dump.proofs.Walks.{passing_from-zero, passing_from-passed, passing_from-failed}
-
--- for walks over declarations
-pub ruleset walk_laws = (passing_from-zero, passing_from-passed, passing_from-failed)
 
 -- for the names of parts
 pub ruleset name_laws = (bytes_of_at, bytes_of_past, name_of_found, name_of_none)

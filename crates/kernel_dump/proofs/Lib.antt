@@ -10,4 +10,3 @@ mod PutInParts
 mod Spaced
 mod ThreadLines
 mod Urgencies
-mod Walks

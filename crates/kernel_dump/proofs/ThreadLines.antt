@@ -1,7 +1,6 @@
 -- The lines of threads, out of the words of their rows.
-use Rattle.std.proofs.Common.{◌≡◌, ℕ, zero, suc, ◌+◌, ◌<◌, ◌==◌, Bool, true, false, List, [], ◌∷◌, ◌++◌, refl, sym, ◌∙◌, ap, arith, cond}
+use Rattle.std.proofs.Common.{◌≡◌, ℕ, zero, suc, ◌+◌, ◌==◌, Bool, true, false, List, [], ◌∷◌, ◌++◌, refl, sym, ◌∙◌, ap, cond}
 use Rattle.std.proofs.lemmas.Bool.{false≢true}
-use Rattle.std.proofs.lemmas.List.FromFn.{get_or-map-range_with_len}
 use Rattle.std.specs.Prelude.{flat_map, map, if◌then◌else◌}
 use Rattle.std.specs.List.{enumerate_from, range_with_len}
 use Rattle.kernel_model.specs.Dump.{is_free, lines_of_row, row_line, row_lines}
@@ -10,18 +9,8 @@ use Rattle.kernel_model.specs.Visible.{Row, free_row}
 use Rattle.kernel_model.specs.declared.row_state.RowState.{RowState}
 use Rattle.kernel_model.specs.declared.row_state.RowState.TheVariants.{Free, Ready, Delayed, Waiting, Ended}
 use Rattle.kernel_image.specs.declared.cell.Cell.{Cell}
-use Rattle.kernel_image.specs.Decoded.{RowWords, blank_row, decoded_of, listed, row_at, row_of}
+use Rattle.kernel_image.specs.Decoded.{RowWords, decoded_of, listed, row_of}
 use Rattle.kernel_image.specs.Shown.{free, ready, delayed, waiting, wait_of, shown_row, state_of}
-
--- by whether a test holds
-pub by_test : (b : Bool) (P : Type 0) → (b ≡ true → P) → (b ≡ false → P) → P
-by_test true P holds fails = holds refl
-by_test false P holds fails = fails refl
-
--- the row of a thread is its words
-pub row_at_words : (word : Cell → ℕ) (t : ℕ) → t < 16 → row_at (decoded_of word) t ≡ row_of word t
-unfolding decoded_of listed
-row_at_words word t low = get_or-map-range_with_len (row_of word) 0 16 t t blank_row low (omega arith)
 
 -- a choice that was made
 pick_true : (b : Bool) (x y : List (List ℕ)) → b ≡ true → cond b x y ≡ x

@@ -1,5 +1,5 @@
 -- The declarations that a dump names by their numbers.
-use Rattle.std.specs.Prelude.{ℕ, ◌*◌, Bool, true, false, if◌then◌else◌, List, [], ◌∷◌, ◌++◌, map, flat_map, zip, codes}
+use Rattle.std.specs.Prelude.{ℕ, ◌*◌, Bool, if◌then◌else◌, List, [], ◌∷◌, ◌++◌, map, flat_map, zip, codes}
 use Rattle.std.specs.Fmt.{decimal}
 use Rattle.thread_tree.specs.declared.tree.Decl.{Decl}
 use Rattle.thread_tree.specs.declared.tree.Decl.TheVariants as decl
@@ -7,17 +7,23 @@ use Rattle.thread_tree.specs.Program as program
 use Rattle.thread_tree.specs.Program.{Program}
 use Rattle.kernel_model.specs.Dump.{object_line}
 use Rattle.kernel_model.specs.Names.{Names, name_of}
+use Rattle.kernel_image.specs.declared.sort.Sort.{Sort as Declared}
+use Rattle.kernel_image.specs.declared.sort.Sort.TheVariants as of
+use Rattle.kernel_image.specs.Declarations.{is_of as declares}
 use Rattle.kernel_image.specs.Shown.{is_begun, object_at}
 use Rattle.kernel_dump.specs.declared.sort.Sort.{Sort}
 use Rattle.kernel_dump.specs.declared.sort.Sort.TheVariants as sort
 
--- whether a declaration declares this
+-- the sort of the declarations that give the names of this one
+abbrev pub declared : Sort → Declared
+declared sort.Kind = of.Kind
+declared sort.Queue = of.Queue
+declared sort.Semaphore = of.Semaphore
+declared sort.Template = of.Thread
+
+-- whether a declaration gives a name of this sort
 abbrev pub is_of : Sort → Decl → Bool
-is_of sort.Kind (decl.Kind name fields) = true
-is_of sort.Queue (decl.Queue name capacity channel) = true
-is_of sort.Semaphore (decl.Semaphore name count maximum) = true
-is_of sort.Template (decl.Thread name parameters priority body) = true
-is_of sort d = false
+is_of s = declares (declared s)
 
 -- the names of this sort by their numbers
 abbrev pub list_of : Sort → Names → List (List ℕ)

@@ -10,17 +10,18 @@ use crate::line::Line;
 use arrayvec::ArrayVec;
 use console_store::{byte, length};
 use outer_world::{Sink, SinkFault};
+use thread_tree::CONSOLE_BYTES;
 use undo_journal::Words;
 
 /// The most bytes of a console.
-const CONSOLE_ROOM: usize = 8_192;
+const CONSOLE_ROOM: usize = CONSOLE_BYTES as usize;
 
 /// The most bytes of a line of the console with the mark before it and its newline.
 const LINE_ROOM: usize = CONSOLE_ROOM + 3;
 
 // The bytes of the console.
 fn read_console<W: Words>(words: &W) -> ArrayVec<u8, CONSOLE_ROOM>
-    requires few { (image_in (W.present words.now)).console_length ≤ 8192 }
+    requires few { (image_in (W.present words.now)).console_length ≤ CONSOLE_BYTES }
     ensures bytes { result.items ≡ bytes_in (image_in (W.present words.now)) }
 {
     let mut bytes = ArrayVec::new();
@@ -123,7 +124,7 @@ fn put_bytes<S: Sink>(console: &[u8], sink: &mut S) -> Result<(), SinkFault>
 
 /// Puts the console: the line of its length, and its lines.
 pub fn put_console<W: Words, S: Sink>(words: &W, sink: &mut S) -> Result<(), SinkFault>
-    requires few { (image_in (W.present words.now)).console_length ≤ 8192 }
+    requires few { (image_in (W.present words.now)).console_length ≤ CONSOLE_BYTES }
     ensures puts { Puts result (S.bytes sink.old) (S.bytes sink.new)
         (text_of (console_size_line (length (bytes_in (image_in (W.present words.now)))) ∷ map console_line (console_lines (bytes_in (image_in (W.present words.now)))))) }
     ensures cause { HasCause (S.faults sink.old) (S.faults sink.new) result }

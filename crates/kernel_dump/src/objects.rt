@@ -11,9 +11,9 @@ ghost use Rattle.kernel_dump.specs.Parts.{fields_in, fields_text, is_of, lines_a
 ghost use Rattle.kernel_dump.specs.declared.sort.Sort.TheVariants as sort;
 
 use crate::line::Line;
-use crate::names::{bytes_of, field_count, field_name, name_at, nth_of};
+use crate::names::{bytes_of, field_count, field_name, name_at};
 use crate::sort::Sort;
-use kernel_image::{Cell, load};
+use kernel_image::{Cell, PLACES, Sort as Declared, load, nth_of};
 use outer_world::{Sink, SinkFault};
 use thread_check::Checked;
 use thread_tree::Decl;
@@ -37,7 +37,7 @@ fn is_begun<W: Words>(words: &W, place: u32) -> bool
     requires within { place < 4096 }
     ensures is { result ≡ begins (image_in (W.present words.now)).live place }
 {
-    let bits = load(words, Cell::LiveWord(place / 64));
+    let bits = load(words, Cell::LiveWord(place / PLACES));
     (bits >> (place / 2 % 32)) % 2 == 1
 }
 
@@ -66,7 +66,7 @@ fn kind_of(program: &Checked, kind: u32) -> Option<&Decl>
     ensures few { IfSome result (λ decl. length (fields_in decl.now) ≤ 10) }
 {
     let tree = program.tree();
-    match nth_of(&tree.decls, Sort::Kind, kind) {
+    match nth_of(&tree.decls, Declared::Kind, kind) {
         Some(decl) => Some(decl),
         None => None,
     }

@@ -14,10 +14,11 @@ ghost use Rattle.kernel_image.specs.Shown.{shown_row};
 use crate::line::Line;
 use crate::names::name_at;
 use crate::sort::Sort;
-use kernel_image::{Cell, load, row_state};
+use kernel_image::{Cell, PRIORITY, TEMPLATE, load, row_state};
 use kernel_model::{NEVER, RowState, What};
 use outer_world::{Sink, SinkFault};
 use thread_check::Checked;
+use thread_tree::ROWS;
 use undo_journal::Words;
 
 // A line with what a thread waits for behind it.
@@ -117,14 +118,14 @@ fn put_thread<W: Words, S: Sink>(
     state: RowState,
     sink: &mut S,
 ) -> Result<(), SinkFault>
-    requires thread { thread < 16 }
+    requires thread { thread < ROWS }
     ensures puts { Puts result (S.bytes sink.old) (S.bytes sink.new)
         (text_of (row_line (names_of (program_of program.now)) thread
         (record { template = (row_of (present (W.present words.now)) thread).template; priority = (row_of (present (W.present words.now)) thread).priority; state = state }) ∷ [])) }
     ensures cause { HasCause (S.faults sink.old) (S.faults sink.new) result }
 {
-    let template = load(words, Cell::RowWord(thread, 1));
-    let priority = load(words, Cell::RowWord(thread, 2));
+    let template = load(words, Cell::RowWord(thread, TEMPLATE));
+    let priority = load(words, Cell::RowWord(thread, PRIORITY));
     row(program, thread, template, priority, state).put(sink)?;
     Ok(())
 }
@@ -136,7 +137,7 @@ fn put_row<W: Words, S: Sink>(
     thread: u32,
     sink: &mut S,
 ) -> Result<(), SinkFault>
-    requires thread { thread < 16 }
+    requires thread { thread < ROWS }
     ensures puts { Puts result (S.bytes sink.old) (S.bytes sink.new)
         (text_of (lines_of_row (names_of (program_of program.now)) thread (shown_row (row_of (present (W.present words.now)) thread)))) }
     ensures cause { HasCause (S.faults sink.old) (S.faults sink.new) result }
@@ -158,7 +159,7 @@ pub fn put_rows<W: Words, S: Sink>(
         (text_of (row_lines (names_of (program_of program.now)) (map shown_row (image_in (W.present words.now)).rows))) }
     ensures cause { HasCause (S.faults sink.old) (S.faults sink.new) result }
 {
-    for thread in 0..16 {
+    for thread in 0..ROWS as u32 {
         put_row(words, program, thread, sink)?;
     }
     Ok(())

@@ -1,6 +1,6 @@
 -- What each action leaves stands for the kernel after the step.
 use Rattle.std.proofs.Common.{◌≡◌, ℕ, ◌+◌, ◌<◌, ◌≤◌, List, [], ◌∷◌, length, Option, Some, None, Bool, true, false, refl, ap, sym, subst, ◌∙◌, arith}
-use Rattle.std.specs.Prelude.{if◌then◌else◌, nat_le, nat_lt, slice_set}
+use Rattle.std.specs.Prelude.{if◌then◌else◌, nat_le, slice_set}
 use Rattle.thread_tree.specs.declared.action.Call.TheVariants.{Print}
 use Rattle.thread_tree.specs.declared.action.Item.{Item}
 use Rattle.thread_tree.specs.declared.block.Stmt.{Stmt, out-Stmt}
@@ -16,7 +16,6 @@ use Rattle.thread_machine.specs.declared.context.Ctx.{Ctx}
 use Rattle.thread_machine.specs.Context.{local_of}
 use Rattle.thread_machine.specs.Reached.{IsContext}
 use Rattle.kernel_model.specs.declared.event.Event.TheVariants.{Step}
-use Rattle.std.proofs.lemmas.Bool.Decides.{nat_tests}
 use Rattle.std.proofs.lemmas.List.FromFn.{length-map-range_with_len}
 use Rattle.thread_tree.specs.declared.block.Block.{Block}
 use Rattle.thread_tree.specs.declared.local.Local.{Local}
@@ -43,7 +42,8 @@ use Rattle.replay_list.specs.Stands.{IsRow, IsLife, KernelStands, console_in}
 use Rattle.kernel_events.specs.Actions.{IsServed, IsPrinted, print_action, fits_on, ok_of, printed_on}
 use Rattle.kernel_events.specs.Follows.{Follows}
 use Rattle.kernel_events.proofs.FollowLaws.{IsCounted, follows-row, follows-nobody, served-is, stopped-is, thread-row}
-use Rattle.kernel_events.proofs.StepLaws.{run_ahead, wanted, step-acted, step-nobody}
+use Rattle.kernel_model.specs.Effects.{ran_ahead, words_wanted}
+use Rattle.kernel_model.proofs.Callers.{step-acted, step-nobody}
 use Rattle.kernel_events.proofs.SetLaws.{set-at}
 
 -- what follows a sound kernel stands for it
@@ -82,7 +82,7 @@ ServedLaw p = (old new : RowWords) (thread : Thread) (s : Stmt) (action : Action
 module _ (p : Program) (d new : Decoded) (before : List (Option Ctx)) (K : State) (t : ℕ) (thread : Thread) (ctx now : Ctx) where
   -- a thread was served, and the console and the objects are these
   pub follows-served : (s : Stmt) (action : Action) (results console : List ℕ) (objects : List Object) → ServedLaw p → KernelStands p d before K → thread_of K t ≡ Some thread → IsDone p thread s action results → IsServed t (kind_word action.kind action.given) results d new → console_in new ≡ console → objects_in p new.heap new.live ≡ objects → IsLaidOut new.heap new.first_hole first_place objects → local_of p ctx ≡ (ahead p thread.local).local → local_of p now ≡ bind p (local_of p ctx) results → IsContext p now
-      → Follows p new (slice_set before t (Some now)) (settle p t (Serves results) (record (run_ahead p K t thread) { console = console; objects = objects }))
+      → Follows p new (slice_set before t (Some now)) (settle p t (Serves results) (record (ran_ahead p K t thread) { console = console; objects = objects }))
   follows-served s action results console objects law stands lives done is_served on are layout arrives bound context =
       let old_row = row_live p d.rows K.rows t thread stands.image.rows lives in
       let life = law (row_at d t) (row_at new t) thread s action results old_row.1 is_served.row done.ready done.arrives done.is_action done.recorded done.many in
@@ -99,10 +99,6 @@ printed-by p K t bytes false is = rw is refl
 -- the words that a statement needs, by its layer
 abbrev pub needed_by : Program → ℕ → List Local → Stmt-F Stmt Block → ℕ
 needed_by p t locals layer = if deletes_itself t locals (call_of layer) then 0 else words_of (action_layer p layer)
-
--- what is at most the room isn't more than it
-pub at_most : (n : ℕ) → n ≤ 256 → nat_lt 256 n ≡ false
-at_most n few = grind (arith, nat_tests)
 
 -- the console has as many bytes as its length says
 pub console-length : (d : Decoded) → length (console_in d) ≡ d.console_length
@@ -123,11 +119,11 @@ module _ (p : Program) (d new : Decoded) (before : List (Option Ctx)) (K : State
       let size : length K.console ≡ d.console_length = ap length (sym stands.image.console) ∙ console-length d in
       let same_fits : nat_le (length K.console + length bytes) console_room ≡ fits = ap (λ n. nat_le (n + length bytes) console_room) size in
       let needed : need p t locals s ≡ 2 = ap (needed_by p t locals) layer in
-      let no_more : nat_lt record_room (wanted p t thread s) ≡ false = rw needed (at_most (thread.debt + 2) room) in
+      let no_more : words_wanted p t thread s ≤ record_room = omega (arith, room, needed) in
       let stepped = step-acted p K t thread s some lives arrival no_more in
-      let effect : effect_of p (run_ahead p K t thread) t locals s ≡ print (run_ahead p K t thread) bytes = ap (effect_of_layer p (run_ahead p K t thread) t locals) layer ∙ ap (print (run_ahead p K t thread)) (sym line) in
-      let after : one p K Step ≡ settle p t (Serves (ok_of fits ∷ [])) (record (run_ahead p K t thread) { console = printed_on fits K.console bytes; objects = K.objects }) =
-      stepped ∙ ap (settled p t) effect ∙ printed-by p (run_ahead p K t thread) t bytes fits same_fits in
+      let effect : effect_of p (ran_ahead p K t thread) t locals s ≡ print (ran_ahead p K t thread) bytes = ap (effect_of_layer p (ran_ahead p K t thread) t locals) layer ∙ ap (print (ran_ahead p K t thread)) (sym line) in
+      let after : one p K Step ≡ settle p t (Serves (ok_of fits ∷ [])) (record (ran_ahead p K t thread) { console = printed_on fits K.console bytes; objects = K.objects }) =
+      stepped ∙ ap (settled p t) effect ∙ printed-by p (ran_ahead p K t thread) t bytes fits same_fits in
       let on : console_in new ≡ printed_on fits K.console bytes = printed.console ∙ ap (λ console. printed_on fits console bytes) stands.image.console in
       let live : new.live ≡ d.live = ap (λ (x : Decoded). x.live) printed.served.rest in
       let first : new.first_hole ≡ d.first_hole = ap (λ (x : Decoded). x.first_hole) printed.served.rest in
@@ -138,7 +134,7 @@ module _ (p : Program) (d new : Decoded) (before : List (Option Ctx)) (K : State
       (follows-served p d new before K t thread ctx now s (print_action items (taking to)) (ok_of fits ∷ []) (printed_on fits K.console bytes) K.objects law stands lives done printed.served on are layout arrives printed.bound context))
 
   -- a thread that ends with a code
-  pub stands-stopped : (code : ℕ) → IsSound p (one p K Step) → KernelStands p d before K → thread_of K t ≡ Some thread → one p K Step ≡ settle p t (Stops code) (run_ahead p K t thread) → new ≡ with_row (record d { events = d.events + 1 }) t (record (row_at d t) { state = 4; code = code })
+  pub stands-stopped : (code : ℕ) → IsSound p (one p K Step) → KernelStands p d before K → thread_of K t ≡ Some thread → one p K Step ≡ settle p t (Stops code) (ran_ahead p K t thread) → new ≡ with_row (record d { events = d.events + 1 }) t (record (row_at d t) { state = 4; code = code })
       → KernelStands p new (slice_set before t None) (one p K Step)
   stands-stopped code sound stands lives after same =
       let old_row = row_live p d.rows K.rows t thread stands.image.rows lives in

@@ -1,7 +1,6 @@
 -- What stands where the chosen thread arrives, and what it leaves.
-use Rattle.std.proofs.Common.{◌≡◌, ℕ, zero, suc, ◌+◌, ◌<◌, ◌≤◌, List, length, Option, Some, None, Bool, true, false, refl, ap, sym, subst, ◌∙◌, arith}
-use Rattle.std.specs.Prelude.{nat_lt, slice_set, slice_get, option_and_then}
-use Rattle.std.proofs.lemmas.Bool.Decides.{nat_tests}
+use Rattle.std.proofs.Common.{◌≡◌, ℕ, zero, suc, ◌+◌, ◌<◌, ◌≤◌, List, length, Option, Some, None, Bool, true, refl, ap, sym, subst, ◌∙◌, arith}
+use Rattle.std.specs.Prelude.{slice_set, slice_get, option_and_then}
 use Rattle.thread_tree.specs.declared.action.Call.TheVariants as call
 use Rattle.thread_tree.specs.declared.action.Item.{Item}
 use Rattle.thread_tree.specs.declared.block.Stmt.{Stmt, out-Stmt}
@@ -24,23 +23,23 @@ use Rattle.thread_machine.specs.Reached.{IsContext}
 use Rattle.kernel_model.specs.declared.event.Event.{Event}
 use Rattle.kernel_model.specs.declared.event.Event.TheVariants.{Step}
 use Rattle.kernel_model.specs.Act.{printed_line}
-use Rattle.kernel_model.specs.Kernel.{Activity, State, Thread, thread_of, is_ready}
-use Rattle.kernel_model.specs.Kernel.Activity.{Ready, Delayed, Waiting}
+use Rattle.kernel_model.specs.Kernel.{State, Thread, thread_of, is_ready}
+use Rattle.kernel_model.specs.Kernel.Activity.{Ready}
 use Rattle.kernel_model.specs.Order.{chosen, line_of}
-use Rattle.kernel_model.proofs.Callers.{ahead-before}
 use Rattle.kernel_image.specs.Agree.{Both}
 use Rattle.kernel_model.specs.Run.{one}
 use Rattle.kernel_model.specs.Sound.{IsSound, IsSoundThread, IsSoundRow}
 use Rattle.kernel_image.specs.Decoded.{Decoded, row_at, with_row}
 use Rattle.replay_list.proofs.Callers.{row_live}
-use Rattle.replay_list.specs.Stands.{IsLife, HasContext, IsContextOf, KernelStands}
+use Rattle.replay_list.specs.Stands.{HasContext, IsContextOf, KernelStands}
 use Rattle.kernel_events.specs.Actions.{IsPrinted}
 use Rattle.kernel_events.specs.Follows.{Arrives}
 use Rattle.std.proofs.lemmas.List.Elements.{All-get_or}
 use Rattle.kernel_model.specs.Kernel.Row.{Free}
 use Rattle.kernel_events.proofs.FollowLaws.{thread-row}
 use Rattle.kernel_events.proofs.SetLaws.{set-again}
-use Rattle.kernel_events.proofs.StepLaws.{wanted, step-no_room, step-finished, step-watchdog}
+use Rattle.kernel_model.specs.Effects.{words_wanted}
+use Rattle.kernel_model.proofs.Callers.{ahead-before, ready-activity, step-no_room, step-finished, step-watchdog}
 use Rattle.kernel_events.proofs.ActLaws.{ServedLaw, needed_by, console-length, stands-printed, stands-stopped}
 
 -- the law that each event keeps a kernel sound
@@ -53,18 +52,10 @@ told p (AtAction statement) number s is here = let same : statement ≡ s = cc i
 told p Finished number s is here = absurd is
 told p Watchdog number s is here = absurd is
 
--- what is more than the room
-is-more : (n : ℕ) → 256 < n → nat_lt 256 n ≡ true
-is-more n more = grind (arith, nat_tests)
-
 module _ (p : Program) (d : Decoded) (contexts : List (Option Ctx)) (K : State) (t : ℕ) (thread : Thread) (ctx : Ctx) where
   -- the words of the records that are used
   pub used-is : (n : Next) → Arrives p d contexts K t thread ctx n → (row_at d t).used ≡ thread.debt
   used-is n a = (row_live p d.rows K.rows t thread a.stands.image.rows a.lives).1.used
-
-  -- the life of the thread in its row
-  pub life-here : (n : Next) → Arrives p d contexts K t thread ctx n → IsLife p (row_at d t) thread
-  life-here n a = (row_live p d.rows K.rows t thread a.stands.image.rows a.lives).1
 
   live-sound : (n : Next) → Arrives p d contexts K t thread ctx n → IsSoundThread p K.ticks K.queues K.counts thread.template thread.priority thread.local thread.debt thread.activity
   live-sound n a =
@@ -95,10 +86,10 @@ module _ (p : Program) (d : Decoded) (contexts : List (Option Ctx)) (K : State) 
   action-is number s a here = ap (λ (found : Option Stmt). elim found as (λ _. Option Action) [ None ↦ None | Some statement ↦ action_of p statement ]) (statement-here number s a here)
 
   -- the records have no room
-  pub stands-full : (number : ℕ) (s : Stmt) (new : Decoded) → KeptLaw → IsWithinLimits p → Arrives p d contexts K t thread ctx (next.Action number) → slice_get (actions p) number ≡ Some s → 256 < wanted p t thread s → new ≡ with_row (record d { events = d.events + 1 }) t (record (row_at d t) { state = 4; code = 4 }) → KernelStands p new contexts (one p K Step)
+  pub stands-full : (number : ℕ) (s : Stmt) (new : Decoded) → KeptLaw → IsWithinLimits p → Arrives p d contexts K t thread ctx (next.Action number) → slice_get (actions p) number ≡ Some s → 256 < words_wanted p t thread s → new ≡ with_row (record d { events = d.events + 1 }) t (record (row_at d t) { state = 4; code = 4 }) → KernelStands p new contexts (one p K Step)
   stands-full number s new kept limits a here full same =
       let sound = kept p K Step limits a.stands.image.sound a.early in
-      let after = step-no_room p K t thread s a.chosen a.lives (action-here number s a here) (is-more (wanted p t thread s) full) in
+      let after = step-no_room p K t thread s a.chosen a.lives (action-here number s a here) full in
       subst (λ contexts. KernelStands p new contexts (one p K Step)) (sym a.taken) (stands-stopped p d new a.before K t thread ctx ctx 4 sound a.stands a.lives after same)
 
   -- a print with room for its record
@@ -110,7 +101,7 @@ module _ (p : Program) (d : Decoded) (contexts : List (Option Ctx)) (K : State) 
       subst (λ contexts. KernelStands p new contexts (one p K Step)) (sym put) (stands-printed p d new a.before K t thread ctx now s place items to law sound a.stands a.chosen a.lives a.ready (action-here number s a here) layer fits a.arrived printed context)
 
 -- the words that a print needs
-pub print-needs : (p : Program) (t : ℕ) (thread : Thread) (s : Stmt) (place : Place) (items : List Item) (to : List At) → out-Stmt s ≡ stmt.Call place (call.Print items) to → wanted p t thread s ≡ thread.debt + 2
+pub print-needs : (p : Program) (t : ℕ) (thread : Thread) (s : Stmt) (place : Place) (items : List Item) (to : List At) → out-Stmt s ≡ stmt.Call place (call.Print items) to → words_wanted p t thread s ≡ thread.debt + 2
 print-needs p t thread s place items to layer = ap (λ n. thread.debt + n) (ap (needed_by p t (ahead p thread.local).local.top.locals) layer)
 
 -- a thread makes no more moves than the bound
@@ -130,12 +121,6 @@ ahead-moves p (suc n) s = went-moves n s (λ t. ahead_by p n t) (λ t. ahead-mov
 some-same : (x y : Ctx) → Some x ≡ Some y → x ≡ y
 some-same x y is = cc
 
--- a thread that is ready is so
-is-ready : (thread : Thread) (activity : Activity) → thread.activity ≡ activity → is_ready thread ≡ true → thread.activity ≡ Ready
-is-ready thread Ready is passes = is
-is-ready thread (Delayed wake) is passes = absurd (let no : ◌≡◌ {A = Bool} false true = sym (ap (λ a. elim a as (λ _. Bool) [ Ready ↦ true | Delayed w ↦ false | Waiting w ↦ false ]) is) ∙ passes in cc)
-is-ready thread (Waiting wait) is passes = absurd (let no : ◌≡◌ {A = Bool} false true = sym (ap (λ a. elim a as (λ _. Bool) [ Ready ↦ true | Delayed w ↦ false | Waiting w ↦ false ]) is) ∙ passes in cc)
-
 -- who is first of those that pass a test
 abbrev pub PassesLaw : Type 0
 PassesLaw = (test : Thread → Bool) (K : State) (t : ℕ) → slice_get (line_of test K.rows) 0 ≡ Some t → (thread : Thread) × (thread_of K t ≡ Some thread) × (test thread ≡ true)
@@ -149,7 +134,7 @@ chosen-context p d contexts K t ctx passes context stands some found =
     let first = passes is_ready K t some in
     let has = context contexts K t first.0 stands.restored first.1 in
     let same : has.0 ≡ ctx = some-same has.0 ctx (sym has.1 ∙ found) in
-    (first.0, first.1, is-ready first.0 first.0.activity refl first.2, subst (λ ctx. IsContextOf p ctx first.0) same has.2)
+    (first.0, first.1, ready-activity first.0.activity first.2, subst (λ ctx. IsContextOf p ctx first.0) same has.2)
 
 -- there is one
 pub chosen-has : (p : Program) (d : Decoded) (contexts : List (Option Ctx)) (K : State) (t : ℕ) → PassesLaw → ContextLaw p → KernelStands p d contexts K → chosen K ≡ Some t → option_and_then (λ found. found) (slice_get contexts t) ≡ None → ⊥

@@ -42,7 +42,7 @@ use Rattle.kernel_events.specs.Actions.{IsServed}
 use Rattle.kernel_events.specs.Blocks.{IsRecordedEvent, IsBound}
 use Rattle.kernel_events.specs.Ends.{IsCommitted, IsLost}
 use Rattle.kernel_events.specs.Follows.{Arrives}
-use Rattle.kernel_events.proofs.StepLaws.{run_ahead}
+use Rattle.kernel_model.specs.Effects.{ran_ahead}
 use Rattle.kernel_events.proofs.ActLaws.{ServedLaw, stands-stopped}
 use Rattle.kernel_events.proofs.ArriveLaws.{KeptLaw, action-here, used-is, stands-full}
 use Rattle.kernel_events.proofs.BlockLaws.{step-block, stands-results, block-needs}
@@ -97,7 +97,7 @@ module _ (p : Program) (d : Decoded) (contexts : List (Option Ctx)) (K : State) 
       ∙ ap (λ (local : LocalState). block p (objects_of p d) local.top.locals (length to - 1) body) (sym a.arrived)
 
   -- results that were recorded over these objects
-  stands-recorded : (new : Decoded) (heap given : List ℕ) (objects : List Object) (end : BlockEnd) (after : List (Option Ctx)) → ServedLaw p → KeptLaw → IsWithinLimits p → Arrives p d contexts K t thread ctx (next.Action number) → slice_get (actions p) number ≡ Some s → out-Stmt s ≡ Atomic place to body → length given ≡ 1 + (length to - 1) → one p K Step ≡ settle p t (Serves given) (record (run_ahead p K t thread) { console = K.console; objects = objects }) → IsRecordedEvent t (16 + 256 * (length to - 1)) given (record d { heap = heap }) new → objects_in p heap d.live ≡ objects → IsLaidOut heap d.first_hole first_place objects → IsBound p t given ctx contexts after → KernelStands p new after (one p K Step)
+  stands-recorded : (new : Decoded) (heap given : List ℕ) (objects : List Object) (end : BlockEnd) (after : List (Option Ctx)) → ServedLaw p → KeptLaw → IsWithinLimits p → Arrives p d contexts K t thread ctx (next.Action number) → slice_get (actions p) number ≡ Some s → out-Stmt s ≡ Atomic place to body → length given ≡ 1 + (length to - 1) → one p K Step ≡ settle p t (Serves given) (record (ran_ahead p K t thread) { console = K.console; objects = objects }) → IsRecordedEvent t (16 + 256 * (length to - 1)) given (record d { heap = heap }) new → objects_in p heap d.live ≡ objects → IsLaidOut heap d.first_hole first_place objects → IsBound p t given ctx contexts after → KernelStands p new after (one p K Step)
   stands-recorded new heap given objects end after law kept limits a here layer many stepped recorded are layout bound =
       let sound = kept p K Step limits a.stands.image.sound a.early in
       let served = served-heap t (16 + 256 * (length to - 1)) given heap d new recorded.served in
@@ -111,7 +111,7 @@ module _ (p : Program) (d : Decoded) (contexts : List (Option Ctx)) (K : State) 
       (stands-results p d a.before K t thread s place to body new ctx bound.now given objects law sound a.stands a.lives a.ready (action-here p d contexts K t thread ctx number s a here) layer many stepped served on there between a.arrived bound.bound bound.context)
 
   -- the step that performs the block
-  stepped-by : (end : BlockEnd) → Arrives p d contexts K t thread ctx (next.Action number) → slice_get (actions p) number ≡ Some s → out-Stmt s ≡ Atomic place to body → (row_at d t).used + 2 + (length to - 1) ≤ 256 → performed_end ≡ end → one p K Step ≡ settled p t (effect_of_end (run_ahead p K t thread) (length to - 1) end)
+  stepped-by : (end : BlockEnd) → Arrives p d contexts K t thread ctx (next.Action number) → slice_get (actions p) number ≡ Some s → out-Stmt s ≡ Atomic place to body → (row_at d t).used + 2 + (length to - 1) ≤ 256 → performed_end ≡ end → one p K Step ≡ settled p t (effect_of_end (ran_ahead p K t thread) (length to - 1) end)
   stepped-by end a here layer room is =
       step-block p d a.before K t thread s place to body end a.chosen a.lives (action-here p d contexts K t thread ctx number s a here) layer (omega (arith, room, used-is p d contexts K t thread ctx (next.Action number) a)) (same-end a ∙ is)
 
@@ -149,7 +149,7 @@ module _ (p : Program) (d : Decoded) (contexts : List (Option Ctx)) (K : State) 
   faulted-by code now new Aborted kept limits a here layer room is ended same = absurd ended
   faulted-by code now new (Fault cause) kept limits a here layer room is ended same =
       let sound = kept p K Step limits a.stands.image.sound a.early in
-      let stepped : one p K Step ≡ settle p t (Stops code) (run_ahead p K t thread) = stepped-by (Fault cause) a here layer room is ∙ ap (λ cause. settle p t (Stops cause) (run_ahead p K t thread)) (sym ended) in
+      let stepped : one p K Step ≡ settle p t (Stops code) (ran_ahead p K t thread) = stepped-by (Fault cause) a here layer room is ∙ ap (λ cause. settle p t (Stops cause) (ran_ahead p K t thread)) (sym ended) in
       subst (λ contexts. KernelStands p new contexts (one p K Step)) (sym a.taken) (stands-stopped p d new a.before K t thread ctx ctx code sound a.stands a.lives stepped same)
 
   -- a block that faulted

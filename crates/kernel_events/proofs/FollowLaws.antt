@@ -23,7 +23,7 @@ use Rattle.replay_list.specs.Stands.{IsRow, HasContext, KernelStands, items_in, 
 use Rattle.kernel_events.specs.Follows.{Follows}
 use Rattle.replay_list.proofs.Callers.{both_set}
 use Rattle.kernel_events.proofs.SetLaws.{set-again, set-at}
-use Rattle.kernel_events.proofs.StepLaws.{run_ahead}
+use Rattle.kernel_model.specs.Effects.{ran_ahead}
 
 -- all but the row of a thread, the console and the heap is as before, and one event more is counted
 abbrev pub IsCounted : ℕ → Decoded → Decoded → Type 0
@@ -80,23 +80,23 @@ pub thread-row : (K : State) (t : ℕ) (thread : Thread) → thread_of K t ≡ S
 thread-row K t thread lives = (live-row (row_of K t) thread lives, past-rows K.rows t thread lives)
 
 -- the kernel where a thread ran ahead
-pub run_ahead-is : (p : Program) (K : State) (t : ℕ) (thread : Thread) → thread_of K t ≡ Some thread → run_ahead p K t thread ≡ record (counted K) { rows = slice_set K.rows t (Live (arrived (ahead p thread.local) thread)) }
-run_ahead-is p K t thread lives = ap (λ row. record (counted K) { rows = slice_set K.rows t (row_with (arrived (ahead p thread.local)) row) }) (thread-row K t thread lives).0
+pub ran_ahead-is : (p : Program) (K : State) (t : ℕ) (thread : Thread) → thread_of K t ≡ Some thread → ran_ahead p K t thread ≡ record (counted K) { rows = slice_set K.rows t (Live (arrived (ahead p thread.local) thread)) }
+ran_ahead-is p K t thread lives = ap (λ row. record (counted K) { rows = slice_set K.rows t (row_with (arrived (ahead p thread.local)) row) }) (thread-row K t thread lives).0
 
 -- the kernel where a thread was served, with other bytes on the console and other objects
-pub served-is : (p : Program) (K : State) (t : ℕ) (thread : Thread) (results : List ℕ) (console : List ℕ) (objects : List Object) → thread_of K t ≡ Some thread → settle p t (Serves results) (record (run_ahead p K t thread) { console = console; objects = objects }) ≡ record (counted K) { rows = slice_set K.rows t (Live (served p results (arrived (ahead p thread.local) thread))); console = console; objects = objects }
+pub served-is : (p : Program) (K : State) (t : ℕ) (thread : Thread) (results : List ℕ) (console : List ℕ) (objects : List Object) → thread_of K t ≡ Some thread → settle p t (Serves results) (record (ran_ahead p K t thread) { console = console; objects = objects }) ≡ record (counted K) { rows = slice_set K.rows t (Live (served p results (arrived (ahead p thread.local) thread))); console = console; objects = objects }
 served-is p K t thread results console objects lives =
     let now = arrived (ahead p thread.local) thread in
     let at = set-at K.rows t (Live now) Free (thread-row K t thread lives).1 in
-    ap (λ (K0 : State). settle p t (Serves results) (record K0 { console = console; objects = objects })) (run_ahead-is p K t thread lives)
+    ap (λ (K0 : State). settle p t (Serves results) (record K0 { console = console; objects = objects })) (ran_ahead-is p K t thread lives)
     ∙ ap (λ rows. record (counted K) { rows = rows; console = console; objects = objects })
     (ap (λ row. slice_set (slice_set K.rows t (Live now)) t (row_with (served p results) row)) at ∙ set-again K.rows t (Live now) (Live (served p results now)))
 
 -- the kernel where a thread ended
-pub stopped-is : (p : Program) (K : State) (t : ℕ) (thread : Thread) (code : ℕ) → thread_of K t ≡ Some thread → settle p t (Stops code) (run_ahead p K t thread) ≡ record (counted K) { rows = slice_set K.rows t (Ended thread.template thread.priority code) }
+pub stopped-is : (p : Program) (K : State) (t : ℕ) (thread : Thread) (code : ℕ) → thread_of K t ≡ Some thread → settle p t (Stops code) (ran_ahead p K t thread) ≡ record (counted K) { rows = slice_set K.rows t (Ended thread.template thread.priority code) }
 stopped-is p K t thread code lives =
     let now = arrived (ahead p thread.local) thread in
     let at = set-at K.rows t (Live now) Free (thread-row K t thread lives).1 in
-    ap (λ (K0 : State). settle p t (Stops code) K0) (run_ahead-is p K t thread lives)
+    ap (λ (K0 : State). settle p t (Stops code) K0) (ran_ahead-is p K t thread lives)
     ∙ ap (λ rows. record (counted K) { rows = rows })
     (ap (λ row. slice_set (slice_set K.rows t (Live now)) t (stopped code row)) at ∙ set-again K.rows t (Live now) (Ended thread.template thread.priority code))

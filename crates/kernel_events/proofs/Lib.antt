@@ -1,5 +1,4 @@
 mod PrintLemmas
-mod StepLaws
 mod SetLaws
 mod FollowLaws
 mod EndLaws

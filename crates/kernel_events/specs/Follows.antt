@@ -17,6 +17,7 @@ use Rattle.kernel_image.specs.Shown.{objects_in}
 use Rattle.kernel_image.specs.Unread.{IsUnread}
 use Rattle.persistent_objects.specs.Layout.{IsLaidOut}
 use Rattle.replay_list.specs.Stands.{IsRow, HasContext, KernelStands, items_in, counts_in, console_in}
+use Rattle.thread_tree.specs.declared.limits.TheConstants.{ROWS}
 
 -- the image and the contexts have all that stands for a kernel, but for what soundness gives
 pub record Follows (p : Program) (d : Decoded) (contexts : List (Option Ctx)) (K : State) : Type 0 where
@@ -30,7 +31,7 @@ pub record Follows (p : Program) (d : Decoded) (contexts : List (Option Ctx)) (K
   pub layout : IsLaidOut d.heap d.first_hole first_place K.objects
   pub unread : IsUnread p d
   pub stamp : d.stamp ≡ K.stamp
-  pub few_stamps : K.stamp ≤ 16 + 17 * K.events
+  pub few_stamps : K.stamp ≤ ROWS + 17 * K.events
   pub restored : Both (HasContext p) contexts K.rows
 
 -- the image stands for a kernel whose chosen thread runs ahead: its context was taken from beside the others, stands for

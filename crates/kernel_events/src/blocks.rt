@@ -27,31 +27,25 @@ ghost use Rattle.kernel_events.specs.Blocks.{IsRecordedEvent, IsBound};
 ghost use Rattle.kernel_events.specs.Ends.{IsCommitted, IsLost};
 ghost use Rattle.kernel_events.specs.Follows.{Arrives};
 
-use crate::closing::{commit, stop};
-use crate::ending::count;
-use crate::room::{NO_RECORD_ROOM, RECORD_ROOM};
-use crate::serving::serve;
+use crate::closing::{commit, count, stop};
+use crate::results::serve;
+use crate::writes::EVENT_WRITES;
 use arrayvec::ArrayVec;
-use kernel_model::soundness;
+use kernel_model::{NO_RECORD_ROOM, soundness};
 use nv_memory::{Cut, Nv};
 use replay_list::{standing_laws, words_used};
 use thread_check::Checked;
 use thread_machine::{Contexts, Ctx};
-use thread_tree::{At, List};
-use undo_journal::{Dark, Idle, Open};
+use thread_tree::{ATOMIC, At, EACH_GIVEN, List, RECORD_WORDS, ROWS};
+use undo_journal::{CAPACITY, Dark, Idle, Open};
 use user_transactions::{TxEnd, perform};
-
-/// The kind of a block, and what each word that it gives adds to its kind word.
-const ATOMIC: u32 = 16;
-
-const EACH_GIVEN: u32 = 256;
 
 /// Undoes what a block did, and opens the transaction anew.
 #[tactic(auto, using(crate::proofs::AnewLaws::few_undoing, crate::proofs::AnewLaws::outside_undone, crate::proofs::EndLaws::fell_spent, crate::proofs::EndLaws::least_none))]
 fn anew<N: Nv>(tx: Open<N>) -> Result<Open<N>, Dark<N>>
     requires room { 320 ≤ room_of (N.words tx) }
     ensures words { IfOk result (λ next. outside (N.words next) ≡ durable (N.words tx)) }
-    ensures room { IfOk result (λ next. room_of (N.words next) ≡ 1280) }
+    ensures room { IfOk result (λ next. room_of (N.words next) ≡ CAPACITY) }
     ensures ends { MatchResult result (λ next. IsCommitted N.Nv 0 961 tx next) (IsLost N.Nv 961 tx) }
 {
     match tx.undo() {
@@ -94,10 +88,10 @@ fn conclude<N: Nv>(
     requires context { IsContext (program_of program.now) ctx.old }
     requires action { IsSomeAnd (next_action (program_of program.now) (local_of (program_of program.now) ctx.old))
         (λ action. length results.now ≡ result_count action.kind action.given) }
-    requires thread { thread < 16 }
+    requires thread { thread < ROWS }
     requires few { length results.now ≤ 4 }
     requires events { (image_in (N.words tx.old)).events + 1 < 2 ^ 32 }
-    requires fits { (row_at (image_in (N.words tx.old)) thread).used + 1 + length results.now ≤ 256 }
+    requires fits { (row_at (image_in (N.words tx.old)) thread).used + 1 + length results.now ≤ RECORD_WORDS }
     requires room { 7 ≤ room_of (N.words tx.old) }
     ensures recorded { OnOk result (IsRecordedEvent thread kind_word results.now (image_in (N.words tx.old)) (image_in (N.words tx.new))) }
     ensures bound { OnOk result (local_of (program_of program.now) ctx.new ≡ bind (program_of program.now) (local_of (program_of program.now) ctx.old) results.now) }
@@ -126,9 +120,9 @@ fn finish_action<N: Nv>(
     requires context { IsContext (program_of program.now) ctx }
     requires action { IsSomeAnd (next_action (program_of program.now) (local_of (program_of program.now) ctx))
         (λ action. length results.items ≡ result_count action.kind action.given) }
-    requires thread { thread < 16 }
+    requires thread { thread < ROWS }
     requires events { (image_in (N.words tx)).events + 1 < 2 ^ 32 }
-    requires fits { (row_at (image_in (N.words tx)) thread).used + 1 + length results.items ≤ 256 }
+    requires fits { (row_at (image_in (N.words tx)) thread).used + 1 + length results.items ≤ RECORD_WORDS }
     requires room { 7 ≤ room_of (N.words tx) }
     ensures recorded { IfOk result (λ idle. IsRecordedEvent thread kind_word results.items (image_in (N.words tx)) (image_in (N.words idle))) }
     ensures bound { OnOk result (IsBound (program_of program.now) thread results.items ctx contexts.old contexts.new) }
@@ -175,14 +169,14 @@ fn perform_block<N: Nv>(
     given: u32,
 ) -> Result<Idle<N>, Dark<N>>
     requires at_rest { IsAtRest (N.words tx) }
-    requires thread { thread < 16 }
+    requires thread { thread < ROWS }
     requires few { given ≤ 3 }
-    requires fits { (row_at (image_in (N.words tx)) thread).used + 2 + given ≤ 256 }
+    requires fits { (row_at (image_in (N.words tx)) thread).used + 2 + given ≤ RECORD_WORDS }
     requires here { (s : Stmt) × (place : Place) × (to : List At) × (body : TBlock) × (slice_get (actions (program_of program.now)) number ≡ Some s) × (out-Stmt s ≡ stmt.Atomic place to body) × (given ≡ length to - 1) × IsTrue (is_served_tblock body) × (block_gives given body ≡ true) }
     requires arrives { (K : State) × (runner : Thread) × Arrives (program_of program.now) (image_in (N.words tx)) contexts.old K thread runner ctx (Action number) }
     ensures happened { IfOk result (λ idle. (K : State) (runner : Thread) → Arrives (program_of program.now) (image_in (N.words tx)) contexts.old K thread runner ctx (Action number)
         → KernelStands (program_of program.now) (image_in (N.words idle)) contexts.new (one (program_of program.now) K Step)) }
-    ensures ends { MatchResult result (λ idle. IsCommitted N.Nv 5 6400 tx idle) (IsLost N.Nv 6400 tx) }
+    ensures ends { MatchResult result (λ idle. IsCommitted N.Nv 5 EVENT_WRITES tx idle) (IsLost N.Nv EVENT_WRITES tx) }
 {
     soundness();
     standing_laws();
@@ -228,18 +222,18 @@ pub fn block_event<N: Nv>(
     to: &List<At>,
 ) -> Result<Idle<N>, Dark<N>>
     requires at_rest { IsAtRest (N.words tx) }
-    requires thread { thread < 16 }
+    requires thread { thread < ROWS }
     requires few { length to.now ≤ 4 }
     requires here { (s : Stmt) × (place : Place) × (body : TBlock) × (slice_get (actions (program_of program.now)) number ≡ Some s) × (out-Stmt s ≡ stmt.Atomic place to.now body) × IsTrue (is_served_tblock body) × (block_gives (length to.now - 1) body ≡ true) }
     requires arrives { (K : State) × (runner : Thread) × Arrives (program_of program.now) (image_in (N.words tx)) contexts.old K thread runner ctx (Action number) }
     ensures happened { IfOk result (λ idle. (K : State) (runner : Thread) → Arrives (program_of program.now) (image_in (N.words tx)) contexts.old K thread runner ctx (Action number)
         → KernelStands (program_of program.now) (image_in (N.words idle)) contexts.new (one (program_of program.now) K Step)) }
-    ensures ends { MatchResult result (λ idle. IsCommitted N.Nv 5 6400 tx idle) (IsLost N.Nv 6400 tx) }
+    ensures ends { MatchResult result (λ idle. IsCommitted N.Nv 5 EVENT_WRITES tx idle) (IsLost N.Nv EVENT_WRITES tx) }
 {
     soundness();
     let _ = program.tree();
     let given = given_by(to);
-    if words_used(&tx, thread) + 2 + given > RECORD_ROOM {
+    if words_used(&tx, thread) + 2 + given > RECORD_WORDS {
         return stop(tx, thread, NO_RECORD_ROOM);
     }
     perform_block(tx, program, contexts, ctx, thread, number, given)

@@ -1,16 +1,14 @@
 //! One event of the kernel: a step of the uncut run, as one transaction (docs/EVENTS.md).
 #![tactic(auto)]
 
-mod acting;
 mod actions;
 mod blocks;
+mod chosen;
 mod closing;
-mod ending;
-mod printing;
+mod events;
 mod prints;
-mod room;
-mod running;
-mod serving;
-mod stepping;
+mod results;
+mod writes;
 
-pub use stepping::{event, happen};
+pub use events::{event, perform_event};
+pub use writes::EVENT_WRITES;

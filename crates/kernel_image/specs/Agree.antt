@@ -7,12 +7,13 @@ use Rattle.kernel_model.specs.Kernel.Row.{Free, Ended, Live}
 use Rattle.kernel_model.specs.Visible.{Object}
 use Rattle.kernel_image.specs.Decoded.{RowWords}
 use Rattle.kernel_image.specs.Shown.{wait_of, number_of_what, static_mark}
+use Rattle.kernel_image.specs.declared.layout.TheConstants.{READY, DELAYED, WAITING, ENDED, FREE}
 
 -- the state of a row is what a thread does
 abbrev pub Does : RowWords → Activity → Type 0
-Does row Ready = row.state ≡ 1
-Does row (Delayed wake) = (row.state ≡ 2) × (row.wake ≡ wake)
-Does row (Waiting wait) = (row.state ≡ 3) × (wait_of row ≡ wait) × (row.what ≡ number_of_what wait.what)
+Does row Ready = row.state ≡ READY
+Does row (Delayed wake) = (row.state ≡ DELAYED) × (row.wake ≡ wake)
+Does row (Waiting wait) = (row.state ≡ WAITING) × (wait_of row ≡ wait) × (row.what ≡ number_of_what wait.what)
 
 -- a row has the template, the priority and the stamp of a live thread, and does what it does
 pub record IsThread (row : RowWords) (thread : Thread) : Type 0 where
@@ -23,14 +24,14 @@ pub record IsThread (row : RowWords) (thread : Thread) : Type 0 where
 
 -- a row of an ended thread
 pub record IsEnded (row : RowWords) (number level cause : ℕ) : Type 0 where
-  pub state : row.state ≡ 4
+  pub state : row.state ≡ ENDED
   pub template : row.template ≡ number
   pub priority : row.priority ≡ level
   pub code : row.code ≡ cause
 
 -- a row stands for a row of the kernel
 abbrev pub Agrees : RowWords → kernel.Row → Type 0
-Agrees row Free = row.state ≡ 0
+Agrees row Free = row.state ≡ FREE
 Agrees row (Ended template priority code) = IsEnded row template priority code
 Agrees row (Live thread) = IsThread row thread
 

@@ -3,37 +3,40 @@ use Rattle.std.specs.Prelude.{ℕ, ◌+◌, ◌-◌, ◌*◌, ◌/◌, ◌%◌, 
 use Rattle.undo_journal.specs.Undo.{outside, durable}
 use Rattle.kernel_image.specs.declared.cell.Cell.{Cell}
 use Rattle.kernel_image.specs.declared.cell.Cell.TheVariants.{Header, SpareHeader, QueueWord, QueueItem, QueueSpare, SemaphoreWord, RowWord, StartValue, RecordWord, ConsoleWord, HeapWord, LiveWord, Spare}
+use Rattle.kernel_image.specs.declared.layout.TheConstants.{SPARE_HEADER_AT, QUEUES_AT, QUEUE_STRIDE, QUEUE_ITEMS_AT, QUEUE_SPARE_AT, SEMAPHORES_AT, SEMAPHORE_STRIDE, ROWS_AT, ROW_STRIDE, START_VALUES_AT, RECORDS_AT, CONSOLE_AT, HEAP_AT, LIVE_AT, SPARE_AT, ROW_WORDS, CONSOLE_WORDS, HEAP_WORDS, LIVE_WORDS}
+use Rattle.thread_tree.specs.declared.limits.TheConstants.{TARGETS, ROWS, START_VALUES, RECORD_WORDS, ITEMS}
+use Rattle.undo_journal.specs.declared.layout.TheConstants.{COUNT, ENTRIES}
 
 -- the address of a cell
 abbrev pub address : Cell → ℕ
 address (Header at) = at
-address (SpareHeader i) = 16 + i
-address (QueueWord queue word) = 64 + 64 * queue + word
-address (QueueItem queue slot) = 68 + 64 * queue + slot
-address (QueueSpare queue i) = 116 + 64 * queue + i
-address (SemaphoreWord semaphore word) = 1088 + 4 * semaphore + word
-address (RowWord thread word) = 1152 + 288 * thread + word
-address (StartValue thread value) = 1168 + 288 * thread + value
-address (RecordWord thread word) = 1184 + 288 * thread + word
-address (ConsoleWord word) = 5760 + word
-address (HeapWord place) = 7808 + place
-address (LiveWord word) = 11904 + word
-address (Spare i) = 14528 + i
+address (SpareHeader i) = SPARE_HEADER_AT + i
+address (QueueWord queue word) = QUEUES_AT + QUEUE_STRIDE * queue + word
+address (QueueItem queue slot) = QUEUE_ITEMS_AT + QUEUE_STRIDE * queue + slot
+address (QueueSpare queue i) = QUEUE_SPARE_AT + QUEUE_STRIDE * queue + i
+address (SemaphoreWord semaphore word) = SEMAPHORES_AT + SEMAPHORE_STRIDE * semaphore + word
+address (RowWord thread word) = ROWS_AT + ROW_STRIDE * thread + word
+address (StartValue thread value) = START_VALUES_AT + ROW_STRIDE * thread + value
+address (RecordWord thread word) = RECORDS_AT + ROW_STRIDE * thread + word
+address (ConsoleWord word) = CONSOLE_AT + word
+address (HeapWord place) = HEAP_AT + place
+address (LiveWord word) = LIVE_AT + word
+address (Spare i) = SPARE_AT + i
 
 -- whether the layout has this cell: the word 0 and the journal are none
 abbrev pub is_cell : Cell → Bool
-is_cell (Header at) = nat_lt 0 at && nat_lt at 16 && not (at == 4)
+is_cell (Header at) = nat_lt 0 at && nat_lt at SPARE_HEADER_AT && not (at == COUNT)
 is_cell (SpareHeader i) = nat_lt i 48
-is_cell (QueueWord queue word) = nat_lt queue 16 && nat_lt word 4
-is_cell (QueueItem queue slot) = nat_lt queue 16 && nat_lt slot 48
-is_cell (QueueSpare queue i) = nat_lt queue 16 && nat_lt i 12
-is_cell (SemaphoreWord semaphore word) = nat_lt semaphore 16 && nat_lt word 4
-is_cell (RowWord thread word) = nat_lt thread 16 && nat_lt word 16
-is_cell (StartValue thread value) = nat_lt thread 16 && nat_lt value 16
-is_cell (RecordWord thread word) = nat_lt thread 16 && nat_lt word 256
-is_cell (ConsoleWord word) = nat_lt word 2048
-is_cell (HeapWord place) = nat_lt place 4096
-is_cell (LiveWord word) = nat_lt word 64
+is_cell (QueueWord queue word) = nat_lt queue TARGETS && nat_lt word 4
+is_cell (QueueItem queue slot) = nat_lt queue TARGETS && nat_lt slot ITEMS
+is_cell (QueueSpare queue i) = nat_lt queue TARGETS && nat_lt i 12
+is_cell (SemaphoreWord semaphore word) = nat_lt semaphore TARGETS && nat_lt word 4
+is_cell (RowWord thread word) = nat_lt thread ROWS && nat_lt word ROW_WORDS
+is_cell (StartValue thread value) = nat_lt thread ROWS && nat_lt value START_VALUES
+is_cell (RecordWord thread word) = nat_lt thread ROWS && nat_lt word RECORD_WORDS
+is_cell (ConsoleWord word) = nat_lt word CONSOLE_WORDS
+is_cell (HeapWord place) = nat_lt place HEAP_WORDS
+is_cell (LiveWord word) = nat_lt word LIVE_WORDS
 is_cell (Spare i) = nat_lt i 1856
 
 -- whether two cells are one
@@ -61,25 +64,25 @@ queue_cell queue word =
 
 abbrev pub row_cell : ℕ → ℕ → Cell
 row_cell thread word =
-    if nat_lt word 16 then RowWord thread word else
-    if nat_lt word 32 then StartValue thread (word - 16) else RecordWord thread (word - 32)
+    if nat_lt word ROW_WORDS then RowWord thread word else
+    if nat_lt word 32 then StartValue thread (word - ROW_WORDS) else RecordWord thread (word - 32)
 
 -- the cell at an address behind the rows
 abbrev pub cell_behind_rows : ℕ → Cell
 cell_behind_rows at =
-    if nat_lt at 7808 then ConsoleWord (at - 5760) else
-    if nat_lt at 11904 then HeapWord (at - 7808) else
-    if nat_lt at 11968 then LiveWord (at - 11904) else
-    if nat_lt at 14528 then Header at else Spare (at - 14528)
+    if nat_lt at HEAP_AT then ConsoleWord (at - CONSOLE_AT) else
+    if nat_lt at LIVE_AT then HeapWord (at - HEAP_AT) else
+    if nat_lt at ENTRIES then LiveWord (at - LIVE_AT) else
+    if nat_lt at SPARE_AT then Header at else Spare (at - SPARE_AT)
 
 -- the cell at an address; a word of the device that is none counts as a header word there
 unfoldable pub cell_of : ℕ → Cell
 cell_of at =
-    if nat_lt at 16 then Header at else
-    if nat_lt at 64 then SpareHeader (at - 16) else
-    if nat_lt at 1088 then queue_cell ((at - 64) / 64) ((at - 64) % 64) else
-    if nat_lt at 1152 then SemaphoreWord ((at - 1088) / 4) ((at - 1088) % 4) else
-    if nat_lt at 5760 then row_cell ((at - 1152) / 288) ((at - 1152) % 288) else
+    if nat_lt at SPARE_HEADER_AT then Header at else
+    if nat_lt at QUEUES_AT then SpareHeader (at - SPARE_HEADER_AT) else
+    if nat_lt at SEMAPHORES_AT then queue_cell ((at - QUEUES_AT) / QUEUE_STRIDE) ((at - QUEUES_AT) % QUEUE_STRIDE) else
+    if nat_lt at ROWS_AT then SemaphoreWord ((at - SEMAPHORES_AT) / SEMAPHORE_STRIDE) ((at - SEMAPHORES_AT) % SEMAPHORE_STRIDE) else
+    if nat_lt at CONSOLE_AT then row_cell ((at - ROWS_AT) / ROW_STRIDE) ((at - ROWS_AT) % ROW_STRIDE) else
     cell_behind_rows at
 
 -- words by their address, as words by their cell; what is no cell is 0
@@ -121,5 +124,5 @@ has_live_place (StartValue thread value) = true
 has_live_place (RecordWord thread word) = true
 has_live_place (ConsoleWord word) = true
 has_live_place (HeapWord place) = true
-has_live_place (LiveWord word) = nat_lt word 64
+has_live_place (LiveWord word) = nat_lt word LIVE_WORDS
 has_live_place (Spare i) = true

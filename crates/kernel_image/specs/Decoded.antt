@@ -4,6 +4,8 @@ use Rattle.std.specs.List.{range_with_len}
 use Rattle.kernel_image.specs.declared.cell.Cell.{Cell}
 use Rattle.kernel_image.specs.declared.cell.Cell.TheVariants.{Header, SpareHeader, QueueWord, QueueItem, QueueSpare, SemaphoreWord, RowWord, StartValue, RecordWord, ConsoleWord, HeapWord, LiveWord, Spare}
 use Rattle.kernel_image.specs.Cells.{present, saved}
+use Rattle.kernel_image.specs.declared.layout.TheConstants.{STATE, TEMPLATE, PRIORITY, CODE, UNTIL, TARGET, WHAT, VALUE, STAMP, START, START_COUNT, USED, EVENTS, TICKS, NEXT_STAMP, CONSOLE_LENGTH, FIRST_HOLE, FRONT, CONSOLE_WORDS, HEAP_WORDS, LIVE_WORDS}
+use Rattle.thread_tree.specs.declared.limits.TheConstants.{START_VALUES, RECORD_WORDS, ITEMS, ROWS, TARGETS}
 
 -- a thread's row
 pub record RowWords : Type 0 where
@@ -82,34 +84,34 @@ listed n f = map f (range_with_len 0 n)
 -- the row of a thread
 abbrev pub row_of : (Cell → ℕ) → ℕ → RowWords
 row_of word t = record {
-  state = word (RowWord t 0);
-  template = word (RowWord t 1);
-  priority = word (RowWord t 2);
-  code = word (RowWord t 3);
-  wake = word (RowWord t 4);
-  target = word (RowWord t 5);
-  what = word (RowWord t 6);
-  value = word (RowWord t 7);
-  stamp = word (RowWord t 8);
+  state = word (RowWord t STATE);
+  template = word (RowWord t TEMPLATE);
+  priority = word (RowWord t PRIORITY);
+  code = word (RowWord t CODE);
+  wake = word (RowWord t UNTIL);
+  target = word (RowWord t TARGET);
+  what = word (RowWord t WHAT);
+  value = word (RowWord t VALUE);
+  stamp = word (RowWord t STAMP);
   next = word (RowWord t 9);
   previous = word (RowWord t 10);
   timed_next = word (RowWord t 11);
   timed_previous = word (RowWord t 12);
-  start = word (RowWord t 13);
-  start_count = word (RowWord t 14);
-  used = word (RowWord t 15);
-  start_values = listed 16 (λ i. word (StartValue t i));
-  records = listed 256 (λ i. word (RecordWord t i));
+  start = word (RowWord t START);
+  start_count = word (RowWord t START_COUNT);
+  used = word (RowWord t USED);
+  start_values = listed START_VALUES (λ i. word (StartValue t i));
+  records = listed RECORD_WORDS (λ i. word (RecordWord t i));
 }
 
 -- a queue by its number
 abbrev pub queue_of : (Cell → ℕ) → ℕ → QueueWords
 queue_of word q = record {
   count = word (QueueWord q 0);
-  front = word (QueueWord q 1);
+  front = word (QueueWord q FRONT);
   senders_head = word (QueueWord q 2);
   receivers_head = word (QueueWord q 3);
-  slots = listed 48 (λ i. word (QueueItem q i));
+  slots = listed ITEMS (λ i. word (QueueItem q i));
   padding = listed 12 (λ i. word (QueueSpare q i));
 }
 
@@ -131,19 +133,19 @@ ready_heads_of word =
 -- the image that words by their cell are
 unfoldable pub decoded_of : (Cell → ℕ) → Decoded
 decoded_of word = record {
-  events = word (Header 1);
-  ticks = word (Header 2);
-  stamp = word (Header 3);
-  console_length = word (Header 5);
-  first_hole = word (Header 6);
+  events = word (Header EVENTS);
+  ticks = word (Header TICKS);
+  stamp = word (Header NEXT_STAMP);
+  console_length = word (Header CONSOLE_LENGTH);
+  first_hole = word (Header FIRST_HOLE);
   timed_head = word (Header 7);
   ready_heads = ready_heads_of word;
-  rows = listed 16 (row_of word);
-  queues = listed 16 (queue_of word);
-  semaphores = listed 16 (semaphore_of word);
-  console = listed 2048 (λ i. word (ConsoleWord i));
-  heap = listed 4096 (λ p. word (HeapWord p));
-  live = listed 64 (λ i. word (LiveWord i));
+  rows = listed ROWS (row_of word);
+  queues = listed TARGETS (queue_of word);
+  semaphores = listed TARGETS (semaphore_of word);
+  console = listed CONSOLE_WORDS (λ i. word (ConsoleWord i));
+  heap = listed HEAP_WORDS (λ p. word (HeapWord p));
+  live = listed LIVE_WORDS (λ i. word (LiveWord i));
   spare_header = listed 48 (λ i. word (SpareHeader i));
   spare = listed 1856 (λ i. word (Spare i));
 }

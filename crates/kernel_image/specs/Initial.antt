@@ -10,6 +10,7 @@ use Rattle.kernel_image.specs.declared.cell.Cell.{Cell}
 use Rattle.kernel_image.specs.declared.cell.Cell.TheVariants.{Header, SpareHeader, QueueWord, QueueItem, QueueSpare, SemaphoreWord, RowWord, StartValue, RecordWord, ConsoleWord, HeapWord, LiveWord, Spare}
 use Rattle.kernel_image.specs.Cells.{cell_of}
 use Rattle.kernel_image.specs.Shown.{ready, static_mark}
+use Rattle.kernel_image.specs.declared.layout.TheConstants.{NEXT_STAMP, FIRST_HOLE, STATE, TEMPLATE, PRIORITY, UNTIL, STAMP, START_COUNT, PLACES}
 
 -- the place after objects that begin at a place, one after another
 abbrev pub end_after : ℕ → List Object → ℕ
@@ -24,8 +25,8 @@ first_hole p = end_after first_place (static_objects p)
 abbrev pub initial_header : Program → ℕ → ℕ
 initial_header p at =
     if at == 0 then magic else
-    if at == 3 then length p.starts else
-    if at == 6 then first_hole p else 0
+    if at == NEXT_STAMP then length p.starts else
+    if at == FIRST_HOLE then first_hole p else 0
 
 -- the priority of the template of a number
 abbrev pub priority_of : Program → ℕ → ℕ
@@ -34,12 +35,12 @@ priority_of p number = elim (slice_get p.templates number) [ None ↦ 0 | Some t
 -- a word of the row of a started thread: it is ready, and its stamp is its number
 abbrev pub started_word : Program → ℕ → ℕ → Start → ℕ
 started_word p thread word start =
-    if word == 0 then ready else
-    if word == 1 then template_number p start.template else
-    if word == 2 then priority_of p (template_number p start.template) else
-    if word == 4 then NEVER else
-    if word == 8 then thread else
-    if word == 14 then length start.arguments else 0
+    if word == STATE then ready else
+    if word == TEMPLATE then template_number p start.template else
+    if word == PRIORITY then priority_of p (template_number p start.template) else
+    if word == UNTIL then NEVER else
+    if word == STAMP then thread else
+    if word == START_COUNT then length start.arguments else 0
 
 -- how many arguments a started thread has
 abbrev pub argument_count : Program → ℕ → ℕ
@@ -80,7 +81,7 @@ of_bits (suc n) bit = (if bit 0 then 1 else 0) + 2 * of_bits n (λ k. bit (k + 1
 
 -- a word of live bits
 abbrev pub initial_live_word : Program → ℕ → ℕ
-initial_live_word p i = of_bits 32 (λ k. is_some (object_at (static_objects p) (64 * i + 2 * k)))
+initial_live_word p i = of_bits 32 (λ k. is_some (object_at (static_objects p) (PLACES * i + 2 * k)))
 
 -- the word of a cell
 unfoldable pub initial_cell : Program → Cell → ℕ

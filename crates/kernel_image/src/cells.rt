@@ -6,6 +6,11 @@ ghost use Rattle.undo_journal.specs.Lending.{IsLent, IsWithin};
 ghost use Rattle.kernel_image.specs.Cells.{address, is_cell, present, with_cell, FellAtLeast};
 
 use crate::cell::Cell;
+use crate::layout::{
+    CONSOLE_AT, HEAP_AT, LIVE_AT, QUEUE_ITEMS_AT, QUEUE_SPARE_AT, QUEUE_STRIDE, QUEUES_AT,
+    RECORDS_AT, ROW_STRIDE, ROWS_AT, SEMAPHORE_STRIDE, SEMAPHORES_AT, SPARE_AT, SPARE_HEADER_AT,
+    START_VALUES_AT,
+};
 use nv_memory::{Cut, Nv};
 use undo_journal::{Open, Words};
 
@@ -18,18 +23,18 @@ pub fn address(cell: Cell) -> u32
 {
     match cell {
         Cell::Header(at) => at,
-        Cell::SpareHeader(i) => 16 + i,
-        Cell::QueueWord(queue, word) => 64 + 64 * queue + word,
-        Cell::QueueItem(queue, slot) => 68 + 64 * queue + slot,
-        Cell::QueueSpare(queue, i) => 116 + 64 * queue + i,
-        Cell::SemaphoreWord(semaphore, word) => 1_088 + 4 * semaphore + word,
-        Cell::RowWord(thread, word) => 1_152 + 288 * thread + word,
-        Cell::StartValue(thread, value) => 1_168 + 288 * thread + value,
-        Cell::RecordWord(thread, word) => 1_184 + 288 * thread + word,
-        Cell::ConsoleWord(word) => 5_760 + word,
-        Cell::HeapWord(place) => 7_808 + place,
-        Cell::LiveWord(word) => 11_904 + word,
-        Cell::Spare(i) => 14_528 + i,
+        Cell::SpareHeader(i) => SPARE_HEADER_AT + i,
+        Cell::QueueWord(queue, word) => QUEUES_AT + QUEUE_STRIDE * queue + word,
+        Cell::QueueItem(queue, slot) => QUEUE_ITEMS_AT + QUEUE_STRIDE * queue + slot,
+        Cell::QueueSpare(queue, i) => QUEUE_SPARE_AT + QUEUE_STRIDE * queue + i,
+        Cell::SemaphoreWord(semaphore, word) => SEMAPHORES_AT + SEMAPHORE_STRIDE * semaphore + word,
+        Cell::RowWord(thread, word) => ROWS_AT + ROW_STRIDE * thread + word,
+        Cell::StartValue(thread, value) => START_VALUES_AT + ROW_STRIDE * thread + value,
+        Cell::RecordWord(thread, word) => RECORDS_AT + ROW_STRIDE * thread + word,
+        Cell::ConsoleWord(word) => CONSOLE_AT + word,
+        Cell::HeapWord(place) => HEAP_AT + place,
+        Cell::LiveWord(word) => LIVE_AT + word,
+        Cell::Spare(i) => SPARE_AT + i,
     }
 }
 

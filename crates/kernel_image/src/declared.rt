@@ -21,8 +21,8 @@ fn is_of(decl: &Decl, sort: Sort) -> bool
     }
 }
 
-// The name that a declaration declares; of a start that of its template.
-fn name_of(decl: &Decl) -> u32
+/// The name that a declaration declares; of a start that of its template.
+pub fn name_of(decl: &Decl) -> u32
     ensures name { result ≡ name_of decl.now }
 {
     match decl {
@@ -38,7 +38,7 @@ fn name_of(decl: &Decl) -> u32
 
 /// The declaration of this sort that has this number, counted from 0.
 #[tactic(auto, using(crate::proofs::LawSets::walk_laws))]
-pub(crate) fn nth_of<'a>(decls: &'a List<Decl>, sort: Sort, number: u32) -> Option<&'a Decl>
+pub fn nth_of<'a>(decls: &'a List<Decl>, sort: Sort, number: u32) -> Option<&'a Decl>
     ensures found { option_copied result ≡ slice_get (filter (is_of sort) decls.now) number }
 {
     let mut left = number;

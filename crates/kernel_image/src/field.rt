@@ -6,7 +6,8 @@ ghost use Rattle.undo_journal.specs.Lending.{IsLent, IsWithin};
 ghost use Rattle.kernel_image.specs.declared.cell.Cell.{Cell};
 ghost use Rattle.kernel_image.specs.Cells.{address, is_cell, present, with_cell, FellAtLeast};
 
-use nv_memory::{Cut, Nv};
+use crate::layout::{ROW_STRIDE, ROWS_AT, USED};
+use nv_memory::{Cut, Nv, WORDS};
 use undo_journal::{Open, Words};
 
 /// A field of a table of rows: the word `BASE + STRIDE * row + AT`.
@@ -16,7 +17,7 @@ impl<const BASE: u32, const STRIDE: u32, const AT: u32> Field<BASE, STRIDE, AT> 
     /// The present word of this field in a row.
     #[tactic(auto, using(crate::proofs::LawSets::load_laws))]
     pub fn read<W: Words>(words: &W, row: u32) -> u32
-        requires within { BASE + STRIDE * row + AT < 16384 }
+        requires within { BASE + STRIDE * row + AT < WORDS }
         ensures word { result ≡ slice_index (W.present words.now) (BASE + STRIDE * row + AT) }
         ensures cell { (cell : Cell) → IsTrue (is_cell cell) → address cell ≡ BASE + STRIDE * row + AT → result ≡ present (W.present words.now) cell }
     {
@@ -48,5 +49,5 @@ impl<const BASE: u32, const STRIDE: u32, const AT: u32> Field<BASE, STRIDE, AT> 
 fn last_record_words<W: Words>(words: &W) -> u32
     ensures word { result ≡ slice_index (W.present words.now) 5487 }
 {
-    Field::<1152, 288, 15>::read(words, 15)
+    Field::<ROWS_AT, ROW_STRIDE, USED>::read(words, 15)
 }

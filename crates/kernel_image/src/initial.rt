@@ -6,31 +6,43 @@ ghost use Rattle.kernel_image.specs.Cells.{cell_of, queue_cell, row_cell, cell_b
 ghost use Rattle.kernel_image.specs.Initial.{initial_cell, initial_header, initial_heap_word, hole_word, initial_live_word, initial_word};
 
 use crate::cell::Cell;
+use crate::layout::{
+    CONSOLE_AT, FIRST_HOLE, HEAP_AT, HEAP_WORDS, LIVE_AT, LIVE_WORDS, NEXT_STAMP, PLACES,
+    QUEUE_STRIDE, QUEUES_AT, ROW_STRIDE, ROW_WORDS, ROWS_AT, SEMAPHORE_STRIDE, SEMAPHORES_AT,
+    SPARE_AT, SPARE_HEADER_AT,
+};
 use crate::parts::initial_count;
 use crate::starts::{initial_row_word, initial_start_value, start_count};
 use crate::statics::{first_hole, static_kind_at};
+use nv_memory::WORDS;
 use thread_check::Checked;
-use undo_journal::MAGIC;
+use undo_journal::{ENTRIES, MAGIC};
 
 /// The cell at an address; a word of the device that is none counts as a header word there.
 #[tactic(auto, unfolding(crate::specs::Cells::cell_of))]
 pub fn cell_of(at: u32) -> Cell
     ensures cell { result ≡ cell_of at }
 {
-    if at < 16 {
+    if at < SPARE_HEADER_AT {
         return Cell::Header(at);
     }
-    if at < 64 {
-        return Cell::SpareHeader(at - 16);
+    if at < QUEUES_AT {
+        return Cell::SpareHeader(at - SPARE_HEADER_AT);
     }
-    if at < 1_088 {
-        return queue_cell((at - 64) / 64, (at - 64) % 64);
+    if at < SEMAPHORES_AT {
+        return queue_cell(
+            (at - QUEUES_AT) / QUEUE_STRIDE,
+            (at - QUEUES_AT) % QUEUE_STRIDE,
+        );
     }
-    if at < 1_152 {
-        return Cell::SemaphoreWord((at - 1_088) / 4, (at - 1_088) % 4);
+    if at < ROWS_AT {
+        return Cell::SemaphoreWord(
+            (at - SEMAPHORES_AT) / SEMAPHORE_STRIDE,
+            (at - SEMAPHORES_AT) % SEMAPHORE_STRIDE,
+        );
     }
-    if at < 5_760 {
-        return row_cell((at - 1_152) / 288, (at - 1_152) % 288);
+    if at < CONSOLE_AT {
+        return row_cell((at - ROWS_AT) / ROW_STRIDE, (at - ROWS_AT) % ROW_STRIDE);
     }
     behind_rows(at)
 }
@@ -53,11 +65,11 @@ fn queue_cell(queue: u32, word: u32) -> Cell
 fn row_cell(thread: u32, word: u32) -> Cell
     ensures cell { result ≡ row_cell thread word }
 {
-    if word < 16 {
+    if word < ROW_WORDS {
         return Cell::RowWord(thread, word);
     }
     if word < 32 {
-        Cell::StartValue(thread, word - 16)
+        Cell::StartValue(thread, word - ROW_WORDS)
     } else {
         Cell::RecordWord(thread, word - 32)
     }
@@ -65,22 +77,22 @@ fn row_cell(thread: u32, word: u32) -> Cell
 
 // The cell at an address behind the rows.
 fn behind_rows(at: u32) -> Cell
-    requires behind { 5760 ≤ at }
+    requires behind { CONSOLE_AT ≤ at }
     ensures cell { result ≡ cell_behind_rows at }
 {
-    if at < 7_808 {
-        return Cell::ConsoleWord(at - 5_760);
+    if at < HEAP_AT {
+        return Cell::ConsoleWord(at - CONSOLE_AT);
     }
-    if at < 11_904 {
-        return Cell::HeapWord(at - 7_808);
+    if at < LIVE_AT {
+        return Cell::HeapWord(at - HEAP_AT);
     }
-    if at < 11_968 {
-        return Cell::LiveWord(at - 11_904);
+    if at < ENTRIES {
+        return Cell::LiveWord(at - LIVE_AT);
     }
-    if at < 14_528 {
+    if at < SPARE_AT {
         Cell::Header(at)
     } else {
-        Cell::Spare(at - 14_528)
+        Cell::Spare(at - SPARE_AT)
     }
 }
 
@@ -90,8 +102,8 @@ fn initial_header(program: &Checked, at: u32) -> u32
 {
     match at {
         0 => MAGIC,
-        3 => start_count(program),
-        6 => first_hole(program),
+        NEXT_STAMP => start_count(program),
+        FIRST_HOLE => first_hole(program),
         _ => 0,
     }
 }
@@ -112,7 +124,11 @@ fn hole_word(program: &Checked, place: u32) -> u32
     ensures word { result ≡ hole_word (program_of program.now) place }
 {
     let first = first_hole(program);
-    if place == first { 4_096 - first } else { 0 }
+    if place == first {
+        HEAP_WORDS - first
+    } else {
+        0
+    }
 }
 
 // Whether a static object begins at a place: 1 or 0.
@@ -131,12 +147,12 @@ fn live_bit(program: &Checked, place: u32) -> u32
 // A word of live bits at the start.
 #[tactic(auto, using(crate::proofs::LawSets::live_laws))]
 fn initial_live_word(program: &Checked, i: u32) -> u32
-    requires within { i < 64 }
+    requires within { i < LIVE_WORDS }
     ensures word { result ≡ initial_live_word (program_of program.now) i }
 {
     let mut word = 0;
     for k in (0..32).rev() {
-        word = live_bit(program, 64 * i + 2 * k) + 2 * word;
+        word = live_bit(program, PLACES * i + 2 * k) + 2 * word;
     }
     word
 }
@@ -168,7 +184,7 @@ fn initial_cell(program: &Checked, cell: Cell) -> u32
 /// The word that formatting writes at an address.
 #[tactic(auto, using(crate::proofs::LawSets::cell_laws))]
 pub fn initial_word(program: &Checked, at: u32) -> u32
-    requires within { at < 16384 }
+    requires within { at < WORDS }
     ensures word { result ≡ initial_word (program_of program.now) at }
 {
     initial_cell(program, cell_of(at))

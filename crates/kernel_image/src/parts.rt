@@ -9,7 +9,7 @@ ghost use Rattle.kernel_image.specs.Initial.{initial_count, priority_of};
 use crate::declared::{nth_of, number_of};
 use crate::sort::Sort;
 use thread_check::Checked;
-use thread_tree::Decl;
+use thread_tree::{Decl, TARGETS};
 
 // The capacity of a queue that is declared.
 fn capacity_in(decl: &Decl) -> u32
@@ -89,7 +89,7 @@ pub(crate) fn declared_capacity(program: &Checked, queue: u32) -> u32
     ensures capacity { result ≡ capacity_of (program_of program.now) queue }
     ensures least { 1 ≤ result }
     ensures most { result ≤ 48 }
-    ensures few { length (program_of program.now).queues ≤ 16 }
+    ensures few { length (program_of program.now).queues ≤ TARGETS }
 {
     let _ = program.tree();
     capacity_of(program, queue)

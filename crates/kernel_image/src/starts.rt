@@ -6,6 +6,7 @@ ghost use Rattle.kernel_image.specs.Declarations.{started_in, argument_count_in,
 ghost use Rattle.kernel_image.specs.Initial.{initial_row_word, initial_start_value, argument_count, priority_of};
 
 use crate::declared::{count_of, nth_of};
+use crate::layout::{PRIORITY, READY, STAMP, START_COUNT, STATE, TEMPLATE, UNTIL};
 use crate::parts::{priority_of, template_number};
 use crate::sort::Sort;
 use kernel_model::NEVER;
@@ -121,12 +122,12 @@ pub(crate) fn initial_row_word(program: &Checked, thread: u32, word: u32) -> u32
     match started(program, thread) {
         None => 0,
         Some(name) => match word {
-            0 => 1,
-            1 => template_number(program, name),
-            2 => started_priority(program, name),
-            4 => NEVER,
-            8 => thread,
-            14 => argument_count(program, thread),
+            STATE => READY,
+            TEMPLATE => template_number(program, name),
+            PRIORITY => started_priority(program, name),
+            UNTIL => NEVER,
+            STAMP => thread,
+            START_COUNT => argument_count(program, thread),
             _ => 0,
         },
     }

@@ -33,7 +33,7 @@ use Rattle.thread_tree.specs.declared.block.Stmt.TheOpen.{Stmt-F}
 use Rattle.thread_tree.specs.declared.block.Stmt.TheOpen as stmt
 use Rattle.thread_tree.specs.Kinds.{action_layer, action_of}
 use Rattle.thread_tree.specs.LocalState.{LocalState, move, next_statement}
-use Rattle.thread_tree.specs.Ahead.{Ahead, Arrival, arrival_of, stops, goes_on, ahead_by, ahead}
+use Rattle.thread_tree.specs.Ahead.{Ahead, Arrival, arrival_of, stops, goes_on, ahead_by, most_moves, ahead}
 use Rattle.thread_tree.specs.Ahead.Arrival.{AtAction, Finished, Watchdog}
 use Rattle.thread_tree.specs.Program.{Program}
 use Rattle.thread_tree.specs.Value.{value_of, values_in}
@@ -110,7 +110,7 @@ module _ (p : Program) (limits : IsWithinLimits p) (K : State) (t : ℕ) (local 
       (ap (λ (o : Option Stmt). words_of (elim o [ None ↦ None | Some statement ↦ action_of p statement ])) next)
       room
 
--- a thread that arrived at an action stands before it
+-- a thread that arrived at an action stands before it, and has no move
 module _ (p : Program) where
   arrival-next : (s : LocalState) (statement : Stmt) → arrival_of s ≡ AtAction statement → next_statement s.top.todo ≡ Some statement
   arrival-next s statement e = go (next_statement s.top.todo) e
@@ -121,23 +121,26 @@ module _ (p : Program) where
 
   -- an arrival at an action
   abbrev IsBefore : Ahead → Type 0
-  IsBefore a = (statement : Stmt) → a.arrival ≡ AtAction statement → next_statement a.local.top.todo ≡ Some statement
+  IsBefore a = (statement : Stmt) → a.arrival ≡ AtAction statement → (next_statement a.local.top.todo ≡ Some statement) × (move p a.local ≡ None)
 
-  stops-before : (s : LocalState) (o : Option LocalState) → IsBefore (stops s o)
-  stops-before s None = arrival-next s
-  stops-before s (Some next) = λ statement e. absurd (let f : Watchdog ≡ AtAction statement = e in cc)
+  stops-before : (s : LocalState) (o : Option LocalState) → move p s ≡ o → IsBefore (stops s o)
+  stops-before s None none = λ statement e. (arrival-next s statement e, none)
+  stops-before s (Some next) is = λ statement e. absurd (let f : Watchdog ≡ AtAction statement = e in cc)
 
-  goes_on-before : (go : LocalState → Ahead) (s : LocalState) (o : Option LocalState) → ((next : LocalState) → IsBefore (go next)) → IsBefore (goes_on go s o)
-  goes_on-before go s None all = arrival-next s
-  goes_on-before go s (Some next) all = all next
+  goes_on-before : (go : LocalState → Ahead) (s : LocalState) (o : Option LocalState) → move p s ≡ o → ((next : LocalState) → IsBefore (go next)) → IsBefore (goes_on go s o)
+  goes_on-before go s None none all = λ statement e. (arrival-next s statement e, none)
+  goes_on-before go s (Some next) is all = all next
 
   ahead_by-before : (n : ℕ) (s : LocalState) → IsBefore (ahead_by p n s)
   unfolding ahead_by
-  ahead_by-before zero s = stops-before s (move p s)
-  ahead_by-before (suc n) s = goes_on-before (λ next. ahead_by p n next) s (move p s) (λ next. ahead_by-before n next)
+  ahead_by-before zero s = stops-before s (move p s) refl
+  ahead_by-before (suc n) s = goes_on-before (λ next. ahead_by p n next) s (move p s) refl (λ next. ahead_by-before n next)
 
-  pub ahead-before : (s : LocalState) → IsBefore (ahead p s)
-  ahead-before s = ahead_by-before 10000 s
+  pub ahead-before : (s : LocalState) (statement : Stmt) → (ahead p s).arrival ≡ AtAction statement → next_statement (ahead p s).local.top.todo ≡ Some statement
+  ahead-before s statement at = (ahead_by-before most_moves s statement at).0
+
+  pub ahead-rests : (s : LocalState) (statement : Stmt) → (ahead p s).arrival ≡ AtAction statement → move p (ahead p s).local ≡ None
+  ahead-rests s statement at = (ahead_by-before most_moves s statement at).1
 
 -- who can be chosen is ready
 pub ready-activity : (a : Activity) → elim a [ Ready ↦ true | Delayed wake ↦ false | Waiting wait ↦ false ] ≡ true → a ≡ Ready

@@ -21,7 +21,9 @@ mod WakingLaws
 mod ResultLaws
 mod SpotLemmas
 mod PlacedLemmas
+mod KeptLaws
 mod TurnLemmas
 mod ReliveLemmas
+mod WrittenLemmas
 mod ShownLaws
 mod PlaceLaws

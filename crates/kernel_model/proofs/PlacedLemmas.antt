@@ -265,4 +265,4 @@ module _ (p : Program) where
   inside-placed number spot values e many = let h = loop-stands number spot e in
       ⊎_elim (λ placed. placed) (λ none. absurd (true≢false (sym h.1 ∙ ap is_some none)))
       (turned-placed (record { locals = named spot.scope values; todo = Turn spot.statement ∷ spot.rest; result = None }) spot.statement spot.rest refl
-      (subst (λ (names : List ℕ). StandAt p false names (Turn spot.statement ∷ spot.rest)) (sym (names-named spot.scope values many)) h.0))
+      (subst (λ (names : List ℕ). StandAt p false names (Turn spot.statement ∷ spot.rest)) (sym (names-named spot.scope values many)) (h.0.0 h.1, h.0.1)))

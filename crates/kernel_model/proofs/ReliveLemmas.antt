@@ -1,7 +1,6 @@
 -- What a thread does keeps it one that its start and its records give back.
-use Rattle.std.proofs.Common.{◌≡◌, ℕ, ◌+◌, Bool, true, false, cond, ◌==◌, List, [], ◌∷◌, ◌++◌, length, Option, Some, None, MatchOption, slice_get, option_and_then, refl, sym, ap, subst, ◌∙◌, eq-eqb, eqb-true}
-use Rattle.std.specs.Prelude.{⊤}
-use Rattle.std.proofs.lemmas.Bool.{and_from, cond-true, cond-false, cond_both}
+use Rattle.std.proofs.Common.{◌≡◌, ℕ, ◌+◌, true, false, cond, ◌==◌, List, [], ◌∷◌, ◌++◌, length, Option, Some, None, slice_get, option_and_then, refl, sym, ap, subst, ◌∙◌, eq-eqb}
+use Rattle.std.proofs.lemmas.Bool.{and_from, cond-true, cond-false}
 use Rattle.std.proofs.lemmas.List.{length-map}
 use Rattle.std.proofs.lemmas.List.Sums.{sum_by_push}
 use Rattle.kernel_model.specs.Kernel.{Activity, Thread}
@@ -12,7 +11,8 @@ use Rattle.kernel_model.specs.Run.{arrived}
 use Rattle.kernel_model.specs.Placed.{IsPlaced}
 use Rattle.kernel_model.specs.Relived.{is_open, life_of, words_in, record_of, IsRelived}
 use Rattle.kernel_model.proofs.ActLemmas.{ahead-before}
-use Rattle.kernel_model.proofs.PlacedLemmas.{bind-placed, inside-placed}
+use Rattle.kernel_model.proofs.KeptLaws.{relived-kept}
+use Rattle.kernel_model.proofs.PlacedLemmas.{moved-placed, bind-placed, inside-placed}
 use Rattle.kernel_model.proofs.TurnLemmas.{ahead-placed, birth-placed, turn-inside}
 use Rattle.thread_tree.specs.declared.local.Local.{Local}
 use Rattle.thread_tree.specs.declared.block.Block.{Block}
@@ -21,7 +21,7 @@ use Rattle.thread_tree.specs.declared.tree.Tree.{Tree}
 use Rattle.thread_tree.specs.Program.{Program, Template, program_of}
 use Rattle.thread_tree.specs.Kinds.{Action, action_of, is_unrecorded, result_count, record_words_of, kind_word}
 use Rattle.thread_tree.specs.LocalState.{LocalState, next_action, after_first, bind, loop_block, birth}
-use Rattle.thread_tree.specs.Ahead.{Ahead, Arrival, ahead}
+use Rattle.thread_tree.specs.Ahead.{Arrival, ahead}
 use Rattle.thread_tree.specs.Ahead.Arrival.{AtAction, Finished, Watchdog}
 use Rattle.thread_tree.specs.Actions.{Spot, loops, inside, spot_at, names_in, values_of}
 use Rattle.thread_tree.specs.Relive.{Start, Record, Life, where_as_many, started, records, passed_by, passed, relived, opened, begun, relive}
@@ -183,94 +183,12 @@ module _ (p : Program) where
           },
         )
 
--- each life stands where the program of a tree has it
-module _ (tree : Tree) where
-  abbrev p : Program
-  p = program_of tree
-
-  -- a life whose local state stands, if there is one
-  abbrev StandsIfSome : Option Life → Type 0
-  StandsIfSome o = MatchOption o ⊤ (λ life. IsPlaced p life.local)
-
-  abbrev PlacedIfSome : Option LocalState → Type 0
-  PlacedIfSome o = MatchOption o ⊤ (IsPlaced p)
-
-  many-placed : (names values : List ℕ) (s : LocalState) → (length values ≡ length names → IsPlaced p s) → PlacedIfSome (where_as_many names values s)
-  many-placed names values s h = cond_both (length names == length values) (Some s) None PlacedIfSome
-      (λ e. h (sym (eqb-true (length names) (length values) e))) (λ e. tt)
-
-  started-placed : (start : Start) → PlacedIfSome (started p start)
-  started-placed (Birth number arguments) = go (slice_get p.templates number) refl
-    where
-      go : (o : Option Template) → slice_get p.templates number ≡ o → PlacedIfSome (option_and_then (λ t. where_as_many t.parameters arguments (birth t arguments)) o)
-      go None e = tt
-      go (Some t) e = many-placed t.parameters arguments (birth t arguments) (birth-placed tree number t arguments e)
-  started-placed (Loop number values) = go (slice_get (loops p) number) refl
-    where
-      go : (o : Option Spot) → slice_get (loops p) number ≡ o → PlacedIfSome (option_and_then (λ spot. where_as_many spot.scope values (inside spot values)) o)
-      go None e = tt
-      go (Some spot) e = many-placed spot.scope values (inside spot values) (inside-placed p number spot values e)
-
-  begun-stands : (o : Option LocalState) → PlacedIfSome o → StandsIfSome (option_and_then (λ s. Some (begun s)) o)
-  begun-stands None h = tt
-  begun-stands (Some s) h = h
-
-  passed-stands : (r : Record) (life : Life) → IsPlaced p life.local → StandsIfSome (passed p r life)
-  passed-stands r life h = go (ahead p life.local).arrival refl
-    where
-      a : Ahead
-      a = ahead p life.local
-
-      by : (statement : Stmt) → a.arrival ≡ AtAction statement → (o : Option Action) → action_of p statement ≡ o →
-          StandsIfSome (option_and_then (λ action. passed_by p r life a action) o)
-      by statement at None is = tt
-      by statement at (Some action) is = cond_both (records action r)
-          (Some (record { local = bind p a.local r.results; moves = life.moves + a.moves; passed = life.passed + 1 })) None StandsIfSome
-          (λ e. bind-placed p a.local action r.results (ahead-placed p life.local h)
-          (ap (λ (o : Option Stmt). elim o [ None ↦ None | Some statement ↦ action_of p statement ]) (ahead-before p life.local statement at) ∙ is))
-          (λ e. tt)
-
-      go : (arrival : Arrival) → a.arrival ≡ arrival → StandsIfSome (elim arrival [
-        | AtAction statement ↦ option_and_then (λ action. passed_by p r life a action) (action_of p statement)
-        | Finished ↦ None
-        | Watchdog ↦ None
-      ])
-      go (AtAction statement) at = by statement at (action_of p statement) refl
-      go Finished at = tt
-      go Watchdog at = tt
-
-  next-stands : (r : Record) (o : Option Life) → StandsIfSome o → StandsIfSome (option_and_then (passed p r) o)
-  next-stands r None h = tt
-  next-stands r (Some life) h = passed-stands r life h
-
-  relived-stands : (rs : List Record) (o : Option Life) → StandsIfSome o → StandsIfSome (relived p rs o)
-  relived-stands [] o h = h
-  relived-stands (r ∷ rs) o h = relived-stands rs (option_and_then (passed p r) o) (next-stands r o h)
-
-  opened-stands : (life : Life) → IsPlaced p life.local → StandsIfSome (opened p life)
-  opened-stands life h = go (ahead p life.local).arrival
-    where
-      go : (arrival : Arrival) → StandsIfSome (elim arrival [
-        | AtAction statement ↦ Some (record life { local = (ahead p life.local).local; moves = life.moves + (ahead p life.local).moves })
-        | Finished ↦ None
-        | Watchdog ↦ None
-      ])
-      go (AtAction statement) = ahead-placed p life.local h
-      go Finished = tt
-      go Watchdog = tt
-
-  open-stands : (o : Option Life) → StandsIfSome o → StandsIfSome (option_and_then (opened p) o)
-  open-stands None h = tt
-  open-stands (Some life) h = opened-stands life h
-
-  relive-stands : (start : Start) (rs : List Record) (is_open : Bool) → StandsIfSome (relive p start rs is_open)
-  relive-stands start rs is_open =
-      let life : Option Life = relived p rs (option_and_then (λ s. Some (begun s)) (started p start)) in
-      let h : StandsIfSome life = relived-stands rs (option_and_then (λ s. Some (begun s)) (started p start)) (begun-stands (started p start) (started-placed start)) in
-      cond_both is_open (option_and_then (opened p) life) life StandsIfSome (λ e. open-stands life h) (λ e. h)
-
 -- a thread that its start and its records give back stands where the program of a tree has it
 pub relived-placed : (tree : Tree) (start : Start) (rs : List Record) (thread : Thread) → IsRelived (program_of tree) start rs thread →
     IsPlaced (program_of tree) thread.local
-relived-placed tree start rs thread h =
-    subst (λ (o : Option Life). MatchOption o ⊤ (λ life. IsPlaced (program_of tree) life.local)) h.lives (relive-stands tree start rs (is_open thread.activity))
+relived-placed tree = let p = program_of tree in relived-kept p (IsPlaced p) (record {
+  born = birth-placed tree;
+  entered = inside-placed p;
+  moved = moved-placed p;
+  bound = bind-placed p;
+})

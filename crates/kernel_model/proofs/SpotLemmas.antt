@@ -1,5 +1,5 @@
 -- The spots of a program by layers, and things to do that stand at them.
-use Rattle.std.proofs.Common.{◌≡◌, ℕ, ◌≤◌, true, false, List, [], ◌∷◌, ◌++◌, length, map, take, Contains, Some, None, refl, sym, ap, subst, ◌∙◌, arith, append-nil}
+use Rattle.std.proofs.Common.{◌≡◌, ℕ, ◌≤◌, true, false, List, [], ◌∷◌, ◌++◌, length, map, take, Contains, Some, None, is_some, refl, sym, ap, subst, ◌∙◌, arith, append-nil, true≢false}
 use Rattle.std.specs.List.{AllByRecursion}
 use Rattle.std.proofs.lemmas.List.{take-append-le, length-take, take_all}
 use Rattle.thread_tree.specs.declared.block.Block.{Block, Block-F, para-roll-Block, roll-Block, map-Block, out-Block, roll-out-Block, out-roll-Block, ind-Block}
@@ -8,7 +8,7 @@ use Rattle.thread_tree.specs.declared.block.Stmt.TheOpen as stmt
 use Rattle.thread_tree.specs.Program.{Program}
 use Rattle.thread_tree.specs.LocalState.{Thing, loop_block}
 use Rattle.thread_tree.specs.LocalState.Thing.{Do, End, Test, Turn}
-use Rattle.thread_tree.specs.Actions.{Spot, SpotsOf, SpotsIn, spots_in, spots_of_layer, spots_in_turn, spots_in_layer, declared_by, spots, spot_at}
+use Rattle.thread_tree.specs.Actions.{Spot, SpotsOf, SpotsIn, spots_in, spots_of_layer, spots_in_turn, spots_in_layer, declared_by, spots, is_loop}
 use Rattle.kernel_model.specs.Placed.{spots_of, AreSpots, IsLoopAt, StandAt}
 
 -- a statement and a block with their spots
@@ -95,9 +95,9 @@ module _ (p : Program) where
       (statements_stand [] [] (λ other e. tt) (out-Block block).stmts scope refl
       (subst (λ (of : SpotsIn). AreSpots p (of scope [])) (spots_in-layer block) all))
 
-  -- the turn of a spot stands, if it is a loop
+  -- what is to be done after a spot stands, and so does its turn, if it is a loop
   abbrev pub TurnStands : Spot → Type 0
-  TurnStands spot = StandAt p false spot.scope (Turn spot.statement ∷ spot.rest)
+  TurnStands spot = (is_loop spot ≡ true → IsLoopAt p spot.statement spot.scope spot.rest (loop_block (out-Stmt spot.statement))) × StandAt p false spot.scope spot.rest
 
   -- the spots of a statement that stands
   abbrev OfStatement : Stmt → Type 0
@@ -139,15 +139,15 @@ module _ (p : Program) where
     of_layer (stmt.While e block) s is scope rest all h = of_g block scope (End (length scope) ∷ Test e (g block) ∷ rest) all
         (follows-end scope (Test e (g block) ∷ rest) (all, nothing_more scope rest h))
     of_layer (stmt.Ploop place block) s is scope rest all h =
-        let stands : TurnStands (spot_at s scope rest) =
+        let stands : StandAt p false scope (Turn s ∷ rest) =
         (subst (λ (x : Stmt-F Stmt Block). IsLoopAt p s scope rest (loop_block x)) (sym is) (all.0, all.1), nothing_more scope rest h) in
-        (stands, of_g block scope (End (length scope) ∷ Turn s ∷ rest) all.1 (follows-end scope (Turn s ∷ rest) stands))
+        (((λ loop. stands.0), stands.1), of_g block scope (End (length scope) ∷ Turn s ∷ rest) all.1 (follows-end scope (Turn s ∷ rest) stands))
     of_layer (stmt.Break place) s is scope rest all h = tt
     of_layer (stmt.Return place value) s is scope rest all h = tt
     of_layer (stmt.Atomic place to block) s is scope rest all h =
-        ((subst (λ (x : Stmt-F Stmt Block). IsLoopAt p s scope rest (loop_block x)) (sym is) tt, nothing_more scope rest h), tt)
+        ((λ loop. absurd (true≢false (sym loop ∙ ap (λ (x : Stmt-F Stmt Block). is_some (loop_block x)) is)), nothing_more scope rest h), tt)
     of_layer (stmt.Call place call to) s is scope rest all h =
-        ((subst (λ (x : Stmt-F Stmt Block). IsLoopAt p s scope rest (loop_block x)) (sym is) tt, nothing_more scope rest h), tt)
+        ((λ loop. absurd (true≢false (sym loop ∙ ap (λ (x : Stmt-F Stmt Block). is_some (loop_block x)) is)), nothing_more scope rest h), tt)
 
     -- the spots of a statement
     of_statement : (x : Stmt-F S B) → OfStatement (roll-Stmt (map-Stmt S B Stmt Block f g x))

@@ -1,6 +1,5 @@
 -- A turn enters the state inside its loop, and births stand where the program has them.
-use Rattle.std.proofs.Common.{◌≡◌, ℕ, zero, suc, ◌<◌, Bool, true, false, cond, List, [], ◌∷◌, ◌++◌, length, filter, get_or, Contains, Option, Some, None, MatchOption, is_some, slice_get, refl, sym, ap, subst, ◌∙◌, arith, true≢false}
-use Rattle.std.specs.Prelude.{⊤}
+use Rattle.std.proofs.Common.{◌≡◌, ℕ, zero, suc, ◌<◌, Bool, true, false, cond, List, [], ◌∷◌, ◌++◌, length, filter, get_or, Contains, Option, Some, None, is_some, slice_get, refl, sym, ap, subst, ◌∙◌, arith, true≢false}
 use Rattle.std.specs.List.{AllByRecursion, flat_map}
 use Rattle.std.proofs.lemmas.List.{length-map}
 use Rattle.std.proofs.lemmas.List.Elements.{All-from_recursion}
@@ -12,14 +11,15 @@ use Rattle.thread_tree.specs.declared.block.Stmt.TheOpen as stmt
 use Rattle.thread_tree.specs.declared.tree.Decl.{Decl}
 use Rattle.thread_tree.specs.declared.tree.Decl.TheVariants as decl
 use Rattle.thread_tree.specs.declared.tree.Tree.{Tree}
-use Rattle.thread_tree.specs.Program.{Program, Body, Template, sorted, program_of, names_of}
-use Rattle.thread_tree.specs.LocalState.{Thing, Frame, LocalState, things, entered, move, next_statement, after_first, loop_block, turned, turn, birth}
+use Rattle.thread_tree.specs.Program.{Program, Body, Function, Template, sorted, program_of, names_of}
+use Rattle.thread_tree.specs.LocalState.{Thing, Frame, LocalState, things, entered, next_statement, after_first, loop_block, turned, turn, birth}
 use Rattle.thread_tree.specs.LocalState.Thing.{Do, End, Test, Turn}
-use Rattle.thread_tree.specs.Ahead.{Ahead, stops, goes_on, ahead_by, ahead}
+use Rattle.thread_tree.specs.Ahead.{ahead}
 use Rattle.thread_tree.specs.Actions.{Spot, SpotsOf, SpotsIn, spots_in, spots_of_layer, spots, is_loop, loops, at_turn, inside, spot_at, names_in, values_of as values_in_order}
 use Rattle.kernel_model.specs.Placed.{AreSpots, IsLoopAt, StandAt, own_frame, IsPlacedFrame, IsPlaced}
 use Rattle.kernel_model.proofs.SpotLemmas.{with_spots, block_spots, spots_of-layer, both-parts, body_stands}
-use Rattle.kernel_model.proofs.PlacedLemmas.{named-parts, names-named, move-placed, inside-placed, all_spots}
+use Rattle.kernel_model.proofs.PlacedLemmas.{named-parts, names-named, moved-placed, inside-placed, all_spots}
+use Rattle.kernel_model.proofs.KeptLaws.{ahead-kept}
 
 -- what passes a test and is in a list has a number among those that pass
 pub number_among : {X : Type 0} (test : X → Bool) (xs : List X) (k : ℕ) (x : X) → k < length xs → get_or xs k x ≡ x → test x ≡ true →
@@ -103,22 +103,8 @@ module _ (p : Program) where
       (length-map t.top.locals (λ (local : Local). local.value) ∙ sym (length-map t.top.locals (λ (local : Local). local.name))))
 
   -- running ahead keeps a thread where it stands
-  stops-placed : (s : LocalState) (o : Option LocalState) → IsPlaced p s → IsPlaced p (stops s o).local
-  stops-placed s None h = h
-  stops-placed s (Some next) h = h
-
-  goes_on-placed : (go : LocalState → Ahead) (s : LocalState) (o : Option LocalState) → IsPlaced p s → MatchOption o ⊤ (IsPlaced p) →
-      ((next : LocalState) → IsPlaced p next → IsPlaced p (go next).local) → IsPlaced p (goes_on go s o).local
-  goes_on-placed go s None h m all = h
-  goes_on-placed go s (Some next) h m all = all next m
-
-  ahead_by-placed : (n : ℕ) (s : LocalState) → IsPlaced p s → IsPlaced p (ahead_by p n s).local
-  unfolding ahead_by
-  ahead_by-placed zero s h = stops-placed s (move p s) h
-  ahead_by-placed (suc n) s h = goes_on-placed (λ next. ahead_by p n next) s (move p s) h (move-placed p s h) (λ next g. ahead_by-placed n next g)
-
   pub ahead-placed : (s : LocalState) → IsPlaced p s → IsPlaced p (ahead p s).local
-  ahead-placed s h = ahead_by-placed 10000 s h
+  ahead-placed = ahead-kept p (IsPlaced p) (moved-placed p)
 
   -- the birth of a template whose body is one of the program's
   birth-stands : (t : Template) (arguments : List ℕ) → length arguments ≡ length t.parameters → AreSpots p (spots_in t.body t.parameters []) →
@@ -128,25 +114,32 @@ module _ (p : Program) where
     lone = refl;
   }
 
-  -- the bodies of the templates that declarations have
-  templates-stand : (ds : List Decl) → AreSpots p (flat_map (λ (body : Body). spots_in body.block body.parameters []) (sorted ds).bodies) →
+  -- the bodies of the templates and functions that declarations have
+  pub bodies-stand : (ds : List Decl) → AreSpots p (flat_map (λ (body : Body). spots_in body.block body.parameters []) (sorted ds).bodies) →
       AllByRecursion (λ (t : Template). AreSpots p (spots_in t.body t.parameters [])) (sorted ds).templates
-  templates-stand [] all = tt
-  templates-stand (decl.Kind name fields ∷ ds) all = templates-stand ds all
-  templates-stand (decl.Object name kind ∷ ds) all = templates-stand ds all
-  templates-stand (decl.Queue name capacity channel ∷ ds) all = templates-stand ds all
-  templates-stand (decl.Semaphore name count maximum ∷ ds) all = templates-stand ds all
-  templates-stand (decl.Function name parameters body ∷ ds) all = templates-stand ds
-      (both-parts (Contains (spots p)) (spots_in body (names_of parameters) []) (flat_map (λ (body : Body). spots_in body.block body.parameters []) (sorted ds).bodies) all).1
-  templates-stand (decl.Thread name parameters priority body ∷ ds) all =
+      × AllByRecursion (λ (f : Function). AreSpots p (spots_in f.body f.parameters [])) (sorted ds).functions
+  bodies-stand [] all = (tt, tt)
+  bodies-stand (decl.Kind name fields ∷ ds) all = bodies-stand ds all
+  bodies-stand (decl.Object name kind ∷ ds) all = bodies-stand ds all
+  bodies-stand (decl.Queue name capacity channel ∷ ds) all = bodies-stand ds all
+  bodies-stand (decl.Semaphore name count maximum ∷ ds) all = bodies-stand ds all
+  bodies-stand (decl.Function name parameters body ∷ ds) all =
       let some = both-parts (Contains (spots p)) (spots_in body (names_of parameters) []) (flat_map (λ (body : Body). spots_in body.block body.parameters []) (sorted ds).bodies) all in
-      (some.0, templates-stand ds some.1)
-  templates-stand (decl.Start place name arguments ∷ ds) all = templates-stand ds all
+      let rest = bodies-stand ds some.1 in (rest.0, (some.0, rest.1))
+  bodies-stand (decl.Thread name parameters priority body ∷ ds) all =
+      let some = both-parts (Contains (spots p)) (spots_in body (names_of parameters) []) (flat_map (λ (body : Body). spots_in body.block body.parameters []) (sorted ds).bodies) all in
+      let rest = bodies-stand ds some.1 in ((some.0, rest.0), rest.1)
+  bodies-stand (decl.Start place name arguments ∷ ds) all = bodies-stand ds all
+
+-- the body of a template stands
+pub template-stands : (tree : Tree) (number : ℕ) (t : Template) → slice_get (program_of tree).templates number ≡ Some t →
+    AreSpots (program_of tree) (spots_in t.body t.parameters [])
+template-stands tree number t e =
+    subst (λ (x : Template). AreSpots (program_of tree) (spots_in x.body x.parameters [])) (get_or_from_slice_get (program_of tree).templates number t t e)
+    (All-from_recursion (λ (x : Template). AreSpots (program_of tree) (spots_in x.body x.parameters [])) (program_of tree).templates
+    (bodies-stand (program_of tree) tree.decls (all_spots (program_of tree))).0 number t (slice_get_within (program_of tree).templates number t e))
 
 -- the birth of a thread stands where the program of a tree has it
 pub birth-placed : (tree : Tree) (number : ℕ) (t : Template) (arguments : List ℕ) → slice_get (program_of tree).templates number ≡ Some t →
     length arguments ≡ length t.parameters → IsPlaced (program_of tree) (birth t arguments)
-birth-placed tree number t arguments e many = birth-stands (program_of tree) t arguments many
-    (subst (λ (x : Template). AreSpots (program_of tree) (spots_in x.body x.parameters [])) (get_or_from_slice_get (program_of tree).templates number t t e)
-    (All-from_recursion (λ (x : Template). AreSpots (program_of tree) (spots_in x.body x.parameters [])) (program_of tree).templates
-    (templates-stand (program_of tree) tree.decls (all_spots (program_of tree))) number t (slice_get_within (program_of tree).templates number t e)))
+birth-placed tree number t arguments e many = birth-stands (program_of tree) t arguments many (template-stands tree number t e)

@@ -9,10 +9,11 @@ use Rattle.kernel_model.specs.Serve.{Effect, answers, becomes, held, finish, wak
 use Rattle.kernel_model.specs.Serve.Fate.{ServesBack, Sleeps, Goes}
 use Rattle.thread_tree.specs.Program.{Program, Template, Queue}
 use Rattle.thread_tree.specs.LocalState.{birth}
+use Rattle.thread_tree.specs.declared.limits.TheConstants.{CONSOLE_BYTES}
 
 -- the most bytes of the console
 abbrev pub console_room : ℕ
-console_room = 8192
+console_room = CONSOLE_BYTES
 
 -- `print`: the bytes are appended where they fit
 abbrev pub print : State → List ℕ → Effect

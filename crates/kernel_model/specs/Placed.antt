@@ -18,7 +18,7 @@ AreSpots p these = AllByRecursion (Contains (spots p)) these
 
 -- the loop of a turn stands where the program has it, and so does what is in its block
 abbrev pub IsLoopAt : Program → Stmt → List ℕ → List Thing → Option Block → Type 0
-IsLoopAt p s scope rest None = ⊤
+IsLoopAt p s scope rest None = ⊥
 IsLoopAt p s scope rest (Some block) =
     Contains (spots p) (spot_at s scope rest) × AreSpots p (spots_in block scope (End (length scope) ∷ Turn s ∷ rest))
 

@@ -16,24 +16,26 @@ use Rattle.kernel_model.specs.Objects.{static_objects}
 use Rattle.thread_tree.specs.Program.{Program, Start}
 use Rattle.thread_tree.specs.Ahead.{Ahead, ahead}
 use Rattle.thread_tree.specs.Ahead.Arrival.{AtAction, Finished, Watchdog}
+use Rattle.thread_tree.specs.declared.limits.TheConstants.{ROWS, RECORD_WORDS}
+use Rattle.kernel_model.specs.declared.codes.TheConstants.{ORDINARY_END, TOO_MANY_MOVES, NO_RECORD_ROOM}
 
 -- how many rows a kernel has
 abbrev pub row_count : ℕ
-row_count = 16
+row_count = ROWS
 
 -- the most words of a thread's records
 abbrev pub record_room : ℕ
-record_room = 256
+record_room = RECORD_WORDS
 
 -- the codes of an end: the ordinary one, too many moves, and no room for the record
 abbrev pub ordinary_end : ℕ
-ordinary_end = 0
+ordinary_end = ORDINARY_END
 
 abbrev pub watchdog : ℕ
-watchdog = 1
+watchdog = TOO_MANY_MOVES
 
 abbrev pub no_record_room : ℕ
-no_record_room = 4
+no_record_room = NO_RECORD_ROOM
 
 -- a thread that ran ahead
 abbrev pub arrived : Ahead → Thread → Thread

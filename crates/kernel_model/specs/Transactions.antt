@@ -15,23 +15,25 @@ use Rattle.thread_tree.specs.declared.transaction.TStmt.TheOpen as tstmt
 use Rattle.thread_tree.specs.Program.{Program}
 use Rattle.thread_tree.specs.Value.{applied, value_in}
 use Rattle.thread_tree.specs.LocalState.{with_value, chosen_by}
+use Rattle.thread_tree.specs.declared.limits.TheConstants.{OPERATIONS, MOVES}
+use Rattle.kernel_model.specs.declared.codes.TheConstants.{TOO_MANY_MOVES, TOO_MANY_OPERATIONS, BAD_REFERENCE}
 
 -- the faults of a block, which end its thread: too many moves, too many operations, a bad reference
 abbrev pub too_many_moves : ℕ
-too_many_moves = 1
+too_many_moves = TOO_MANY_MOVES
 
 abbrev pub too_many_operations : ℕ
-too_many_operations = 2
+too_many_operations = TOO_MANY_OPERATIONS
 
 abbrev pub bad_reference : ℕ
-bad_reference = 3
+bad_reference = BAD_REFERENCE
 
 -- the most operations on objects in one block, and its most moves
 abbrev pub most_operations : ℕ
-most_operations = 64
+most_operations = OPERATIONS
 
 abbrev pub most_block_moves : ℕ
-most_block_moves = 10000
+most_block_moves = MOVES
 
 -- a field of an object: the place, the number of the type that the object there must have, and that of the field
 pub record Reference : Type 0 where

@@ -2,7 +2,7 @@ ghost use Rattle.std.specs.Prelude.{◌≡◌, ◌≤◌, IsSome, IfSome};
 ghost use Rattle.thread_tree.specs.Program.{Program};
 ghost use Rattle.thread_tree.specs.Kinds.{action_of, record_words_of};
 
-use thread_tree::{Stmt, kind_of_call, result_count};
+use thread_tree::{ATOMIC, Stmt, TURN, kind_of_call, result_count};
 
 /// The number of an action's kind, from 1 to 16. The statement is an action: a call, an atomic
 /// block, or a persistent loop, whose action is its turn.
@@ -12,8 +12,8 @@ pub fn kind_of(stmt: &Stmt) -> u32
 {
     match stmt {
         Stmt::Call(_, call, _) => kind_of_call(call),
-        Stmt::Ploop(..) => 14,
-        Stmt::Atomic(..) => 16,
+        Stmt::Ploop(..) => TURN,
+        Stmt::Atomic(..) => ATOMIC,
         Stmt::Let(..)
         | Stmt::Set(..)
         | Stmt::Apply(..)
@@ -28,7 +28,7 @@ pub fn kind_of(stmt: &Stmt) -> u32
 /// each result. `given` is the number of words that an atomic block gives, and counts for it alone.
 pub fn record_words(kind: u32, given: u32) -> u32
     requires first { 1 ≤ kind }
-    requires last { kind ≤ 16 }
+    requires last { kind ≤ ATOMIC }
     requires few { given ≤ 3 }
     ensures words { result ≡ record_words_of kind given }
 {

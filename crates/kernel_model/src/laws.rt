@@ -26,7 +26,7 @@ ghost use Rattle.thread_tree.specs.declared.block.Block.{Block};
 ghost use Rattle.thread_tree.specs.declared.block.Stmt.{Stmt, out-Stmt};
 ghost use Rattle.thread_tree.specs.declared.local.Local.{Local};
 ghost use Rattle.thread_tree.specs.declared.tree.Tree.{Tree};
-ghost use Rattle.thread_tree.specs.Actions.{Spot, loops, inside, spot_at, names_in, values_of};
+ghost use Rattle.thread_tree.specs.Actions.{Spot, actions, loops, inside, spot_at, names_in, values_of};
 ghost use Rattle.thread_tree.specs.Ahead.{ahead};
 ghost use Rattle.thread_tree.specs.Ahead.Arrival.{AtAction, Finished, Watchdog};
 ghost use Rattle.thread_tree.specs.Relive.{Start, Record};
@@ -35,6 +35,8 @@ ghost use Rattle.thread_tree.specs.Kinds.{Action, action_of, kind_of_call, is_un
 ghost use Rattle.thread_tree.specs.Limits.{IsWithinLimits};
 ghost use Rattle.thread_tree.specs.LocalState.{LocalState, move, next_statement, next_action, after_first, bind, loop_block, turn, birth};
 ghost use Rattle.thread_tree.specs.Program.{Program, Template, program_of};
+
+use thread_tree::ROWS;
 
 /// The laws of the uncut run of a program within its limits. It does nothing.
 ///
@@ -50,7 +52,7 @@ pub fn soundness()
     ensures begins { (p : Program) (events : List Event) → after p events 0 ≡ initial p }
     ensures goes_on { (p : Program) (events : List Event) (n : ℕ) (d : Event) → n < length events → after p events (n + 1) ≡ one p (after p events n) (slice_index_or events n d) }
     ensures stamps { (p : Program) (K : State) (event : Event) → (one p K event).stamp ≤ K.stamp + 17 }
-    ensures first_stamp { (p : Program) → IsWithinLimits p → (initial p).stamp ≤ 16 }
+    ensures first_stamp { (p : Program) → IsWithinLimits p → (initial p).stamp ≤ ROWS }
     ensures past { (p : Program) (K : State) (t : ℕ) (thread : Thread) → IsSound p K → thread_of K t ≡ Some thread → thread.stamp < K.stamp }
     ensures apart { (p : Program) (K : State) (t u s : ℕ) (a b : Thread) → IsSound p K → thread_of K t ≡ Some a → thread_of K u ≡ Some b → listed a.stamp a.activity ≡ Some s → listed b.stamp b.activity ≡ Some s → t ≡ u }
 {}
@@ -109,7 +111,7 @@ pub fn loops()
 /// it passed, and its debt, which is the sum of the records' words. A thread is born with no record.
 /// An action that is served appends its record, and so does a call that is finished after it was
 /// open. A turn begins anew, inside the loop. Each thread that is given back stands where the
-/// program has it.
+/// program has it. The action at which it arrives is one of the program's.
 pub fn replay()
     ensures born { (p : Program) (number : ℕ) (t : Template) (arguments : List ℕ) (stamp : ℕ) → slice_get p.templates number ≡ Some t → length arguments ≡ length t.parameters → IsRelived p (Birth number arguments) [] (born number t arguments stamp) }
     ensures served { (p : Program) (start : Start) (rs : List Record) (thread : Thread) → IsRelived p start rs thread → (s : Stmt) (action : Action) (results : List ℕ) → thread.activity ≡ Ready → (ahead p thread.local).arrival ≡ AtAction s → action_of p s ≡ Some action → is_unrecorded action.kind ≡ false → length results ≡ result_count action.kind action.given → IsRelived p start (rs ++ record_of action results ∷ []) (served p results (arrived (ahead p thread.local) thread)) }
@@ -117,6 +119,7 @@ pub fn replay()
     ensures finished { (p : Program) (start : Start) (rs : List Record) (thread : Thread) → IsRelived p start rs thread → (action : Action) (results : List ℕ) → is_open thread.activity ≡ true → next_action p thread.local ≡ Some action → is_unrecorded action.kind ≡ false → length results ≡ result_count action.kind action.given → IsRelived p start (rs ++ record_of action results ∷ []) (awake p results thread) }
     ensures turned { (p : Program) (start : Start) (rs : List Record) (thread : Thread) → IsRelived p start rs thread → (s : Stmt) (block : Block) → thread.activity ≡ Ready → IsPlaced p thread.local → (ahead p thread.local).arrival ≡ AtAction s → loop_block (out-Stmt s) ≡ Some block → (ahead p thread.local).local.below ≡ [] → (number : ℕ) × (slice_get (loops p) number ≡ Some (spot_at s (names_in (ahead p thread.local).local.top.locals) (after_first (ahead p thread.local).local.top.todo))) × IsRelived p (Loop number (values_of (ahead p thread.local).local.top.locals)) [] (turned (arrived (ahead p thread.local) thread)) }
     ensures placed { (tree : Tree) (start : Start) (rs : List Record) (thread : Thread) → IsRelived (program_of tree) start rs thread → IsPlaced (program_of tree) thread.local }
+    ensures arrives { (tree : Tree) (start : Start) (rs : List Record) (thread : Thread) (s : Stmt) → IsRelived (program_of tree) start rs thread → (ahead (program_of tree) thread.local).arrival ≡ AtAction s → (number : ℕ) × (slice_get (actions (program_of tree)) number ≡ Some s) }
 {}
 
 /// The laws of a step. It does nothing.

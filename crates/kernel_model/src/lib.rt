@@ -2,6 +2,7 @@
 //! call leaves behind for the replay, and the text of its dump.
 #![tactic(auto)]
 
+mod codes;
 mod event;
 mod kinds;
 mod laws;
@@ -9,6 +10,7 @@ mod row_state;
 mod wait;
 mod what;
 
+pub use codes::{BAD_REFERENCE, NO_RECORD_ROOM, ORDINARY_END, TOO_MANY_MOVES, TOO_MANY_OPERATIONS};
 pub use event::Event;
 pub use kinds::{kind_of, record_words};
 pub use laws::{acting, loops, open_calls, order, places, replay, soundness, stepping, waking};

@@ -1,6 +1,7 @@
 // What a device of nonvolatile words is, for all that is generic over it.
 ghost use Rattle.std.specs.Prelude.{◌≡◌, ◌<◌, ◌^◌, ◌++◌, [], ◌∷◌, List, ℕ, Option, Some, None, length, slice_index, slice_set, IsErr, OnOk, OnErr, ◌↔◌, ◌≤◌};
 ghost use Rattle.nv_memory.specs.Budget.{first_budget, later_budgets, spent};
+ghost use Rattle.nv_memory.specs.declared.nv.TheConstants.{WORDS};
 
 use std::alloc::Global;
 
@@ -71,7 +72,7 @@ pub trait Nv {
         ensures ends { ends self.new ≡ ends self.old ++ words self.old ∷ [] };
 
     /// The device has all its words.
-    ghost sized: { (nv : Self) → length (words nv) ≡ 16384 };
+    ghost sized: { (nv : Self) → length (words nv) ≡ WORDS };
 
     /// Each word has 32 bits.
     ghost fits: { (nv : Self) (at : ℕ) → slice_index (words nv) at < 2 ^ 32 };

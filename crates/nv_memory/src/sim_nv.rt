@@ -2,27 +2,35 @@
 ghost use Rattle.std.specs.Prelude.{◌≡◌, ◌+◌, ◌<◌, ◌≤◌, ◌^◌, [], None, All, length, take, drop, map, replicate, IfOk, vec_len};
 ghost use Rattle.std.specs.Option.{ForSome};
 ghost use Rattle.nv_memory.specs.Blank.{blank_words};
+ghost use Rattle.nv_memory.specs.declared.nv.TheConstants.{WORDS};
 
 use crate::{Cut, NoMemory, Nv, WORDS};
 use std::alloc::Global;
 
-/// A device in memory. It begins blank and on mains.
+/// What was planned for a device, and how its boots ended.
 ///
 /// The budgets are all that were planned. Each has an image, of which the first `used` hold the words at the ends of
 /// the boots so far, so the budget that counts now is the one at `used`.
 #[derive(Drop)]
-pub struct SimNv {
-    words: Vec<u32>,
-    left: Option<u32>,
+struct Plan {
     budgets: Vec<u32>,
     images: Vec<Vec<u32>>,
     used: usize,
-    ghost sized: { length words.items ≡ 16384 },
-    ghost fits: { All (λ word. word < 2 ^ 32) words.items },
-    ghost images_sized: { All (λ image. length image.items ≡ 16384) images.items },
+    ghost images_sized: { All (λ image. length image.items ≡ WORDS) images.items },
     ghost an_image_each: { vec_len images ≡ vec_len budgets },
     ghost used_front: { used ≤ vec_len images },
-    ghost one_more: { ForSome left (λ _. used < vec_len images) },
+}
+
+/// A device in memory. It begins blank and on mains. Its plan, which only a cut needs, stands in a place of its own, since
+/// the device goes from call to call by value.
+#[derive(Drop)]
+pub struct SimNv {
+    words: Vec<u32>,
+    left: Option<u32>,
+    plan: Box<Plan>,
+    ghost sized: { length words.items ≡ WORDS },
+    ghost fits: { All (λ word. word < 2 ^ 32) words.items },
+    ghost one_more: { ForSome left (λ _. plan.value.used < vec_len plan.value.images) },
 }
 
 impl SimNv {
@@ -34,13 +42,19 @@ impl SimNv {
         ensures ends { IfOk result (λ nv. ⟦<SimNv as Nv>⟧.ends nv ≡ []) }
     {
         let words = blank_image(alloc)?;
-        Ok(SimNv {
-            words,
-            left: None,
+        let plan = Plan {
             budgets: Vec::new(alloc),
             images: Vec::new(alloc),
             used: 0,
-        })
+        };
+        match Box::new(alloc, plan) {
+            Ok(plan) => Ok(SimNv {
+                words,
+                left: None,
+                plan,
+            }),
+            Err(_) => Err(NoMemory),
+        }
     }
 
     /// The words.
@@ -54,7 +68,7 @@ impl SimNv {
     pub fn ends(&self) -> &[Vec<u32>]
         ensures ends { map (λ end. end.items) result.now ≡ ⟦<SimNv as Nv>⟧.ends self.now }
     {
-        &self.images[..self.used]
+        &self.plan.images[..self.plan.used]
     }
 }
 
@@ -63,9 +77,9 @@ impl Nv for SimNv {
 
     ghost left = { λ nv. nv.left };
 
-    ghost to_come = { λ nv. drop (nv.used + 1) nv.budgets.items };
+    ghost to_come = { λ nv. drop (nv.plan.value.used + 1) nv.plan.value.budgets.items };
 
-    ghost ends = { λ nv. map (λ image. image.items) (take nv.used nv.images.items) };
+    ghost ends = { λ nv. map (λ image. image.items) (take nv.plan.value.used nv.plan.value.images.items) };
 
     ghost sized = { λ nv. nv.sized };
 
@@ -76,10 +90,12 @@ impl Nv for SimNv {
     fn plan(&mut self, alloc: Global, budgets: &[u32]) -> Result<(), NoMemory> {
         let kept = copy_of(alloc, budgets)?;
         let images = images(alloc, budgets.len())?;
+        *self.plan = Plan {
+            budgets: kept,
+            images,
+            used: 0,
+        };
         self.left = budgets.first().copied();
-        self.budgets = kept;
-        self.images = images;
-        self.used = 0;
         Ok(())
     }
 
@@ -99,10 +115,11 @@ impl Nv for SimNv {
     }
 
     fn power_up(&mut self) {
-        let used = self.used;
-        self.images[used].copy_from_slice(&self.words);
-        self.used = used + 1;
-        self.left = self.budgets.get(self.used).copied();
+        let plan = &mut *self.plan;
+        let used = plan.used;
+        plan.images[used].copy_from_slice(&self.words);
+        plan.used = used + 1;
+        self.left = plan.budgets.get(plan.used).copied();
     }
 }
 
@@ -132,7 +149,7 @@ fn zeros(alloc: Global, count: usize) -> Result<Vec<u32>, NoMemory>
 #[tactic(auto, unfolding(crate::specs::Blank::blank_words))]
 fn blank_image(alloc: Global) -> Result<Vec<u32>, NoMemory>
     ensures blank { IfOk result (λ image. image.items ≡ blank_words) }
-    ensures sized { IfOk result (λ image. length image.items ≡ 16384) }
+    ensures sized { IfOk result (λ image. length image.items ≡ WORDS) }
     ensures fits { IfOk result (λ image. All (λ word. word < 2 ^ 32) image.items) }
 {
     let image = zeros(alloc, WORDS as usize)?;
@@ -142,7 +159,7 @@ fn blank_image(alloc: Global) -> Result<Vec<u32>, NoMemory>
 /// So many blank images.
 fn images(alloc: Global, count: usize) -> Result<Vec<Vec<u32>>, NoMemory>
     ensures count { IfOk result (λ images. vec_len images ≡ count) }
-    ensures sized { IfOk result (λ images. All (λ image. length image.items ≡ 16384) images.items) }
+    ensures sized { IfOk result (λ images. All (λ image. length image.items ≡ WORDS) images.items) }
 {
     let mut images = Vec::new(alloc);
     for _ in 0..count {

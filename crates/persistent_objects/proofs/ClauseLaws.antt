@@ -12,7 +12,7 @@ use Rattle.persistent_objects.specs.Layout.{IsLaidOut}
 use Rattle.persistent_objects.specs.Objects.{value_at}
 use Rattle.kernel_image.specs.Decoded.{listed}
 use Rattle.std.proofs.Math.ListN.{get_or-eq_default}
-use Rattle.persistent_objects.proofs.Listed.{listed-at, length-listed}
+use Rattle.kernel_image.proofs.Callers.{listed-at, length-listed}
 use Rattle.persistent_objects.proofs.FoundLaws.{IsThere, there, begun}
 use Rattle.persistent_objects.proofs.FieldLaws.{field-sound}
 use Rattle.persistent_objects.proofs.LayoutLaws.{holes-inside, holes-with, headers-inside, headers-with}

@@ -7,7 +7,7 @@ use Rattle.kernel_model.specs.Visible.{Object}
 use Rattle.kernel_model.specs.Objects as objects
 use Rattle.kernel_image.specs.Shown.{is_begun, even_places, object_at, objects_in, static_mark}
 use Rattle.thread_tree.specs.Program.{Program}
-use Rattle.persistent_objects.proofs.Listed.{by_test}
+use Rattle.kernel_image.proofs.Callers.{by_test}
 
 -- whether a place is in a list
 abbrev pub is_in : ℕ → List ℕ → Bool

@@ -4,7 +4,7 @@ use Rattle.std.proofs.Math.ListN.{get_or-eq_default}
 use Rattle.kernel_image.specs.declared.cell.Cell.{Cell}
 use Rattle.kernel_image.specs.declared.cell.Cell.TheVariants.{HeapWord, LiveWord}
 use Rattle.kernel_image.specs.Decoded.{decoded_of}
-use Rattle.persistent_objects.proofs.Listed.{listed-at, length-listed}
+use Rattle.kernel_image.proofs.Callers.{listed-at, length-listed}
 
 pub heap_word_at : (word : Cell → ℕ) (at : ℕ) → at < 4096 → slice_index (decoded_of word).heap at ≡ word (HeapWord at)
 unfolding decoded_of

@@ -5,8 +5,6 @@ mod Given
 mod LayoutLaws
 mod ImageLaws
 mod LawSets
-mod Listed
 mod NumberLaws
-mod Packed
 mod StaticLaws
 mod StoreLaws

@@ -17,7 +17,7 @@ use Rattle.kernel_image.specs.Declarations.{kind_in}
 use Rattle.persistent_objects.specs.declared.what.What.TheVariants.{Kinds, Objects, ObjectKinds}
 use Rattle.persistent_objects.specs.NamesIn.{names_in, is_name, kind_fields}
 use Rattle.persistent_objects.proofs.Given.{rest_from, position-few}
-use Rattle.persistent_objects.proofs.Packed.{HasFewFields-within}
+use Rattle.kernel_image.proofs.Callers.{HasFewFields-within}
 
 -- a place by what elements have is one among what they have
 position-map : {X Y : Type 0} (f : X → Y) (test : Y → Bool) (xs : List X) → position_or_len (λ x. test (f x)) xs ≡ position_or_len test (map f xs)

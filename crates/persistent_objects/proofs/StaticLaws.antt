@@ -15,7 +15,7 @@ use Rattle.persistent_objects.specs.declared.what.What.TheVariants.{ObjectKinds}
 use Rattle.persistent_objects.specs.NamesIn.{name_in, names_in, no_object}
 use Rattle.persistent_objects.proofs.Given.{given_from, given_from-zero, given_from-some, given_from-none, given_from-past}
 use Rattle.persistent_objects.proofs.NumberLaws.{names-object_kinds}
-use Rattle.persistent_objects.proofs.Packed.{packed, static_at, size_of, static_objects-of}
+use Rattle.kernel_image.proofs.Callers.{packed, static_at, size_of, static_objects-of}
 
 -- the static objects by the names of their types
 named : (tree : Tree) → IsWithinLimits (program_of tree) → static_objects (program_of tree) ≡ packed (program_of tree) 2 (names_in ObjectKinds tree.decls)

@@ -9,7 +9,7 @@ use Rattle.kernel_model.specs.Sound.{IsLaid}
 use Rattle.kernel_image.specs.Decoded.{listed}
 use Rattle.kernel_image.specs.Shown.{object_at, static_mark}
 use Rattle.thread_tree.specs.Program.{Program}
-use Rattle.persistent_objects.proofs.Listed.{by_test, listed-set, listed-same, length-listed}
+use Rattle.kernel_image.proofs.Callers.{by_test, listed-set, listed-same, length-listed}
 use Rattle.persistent_objects.proofs.FoundLaws.{is_in, kind_at, objects_at}
 use Rattle.persistent_objects.proofs.LayoutLaws.{InSome}
 

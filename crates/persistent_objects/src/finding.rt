@@ -6,7 +6,7 @@ ghost use Rattle.kernel_image.specs.Decoded.{image_in};
 ghost use Rattle.kernel_image.specs.Shown.{is_begun, static_mark};
 ghost use Rattle.persistent_objects.specs.Objects.{objects_of};
 
-use kernel_image::Cell;
+use kernel_image::{Cell, PLACES};
 use thread_check::Checked;
 use undo_journal::Words;
 
@@ -16,7 +16,7 @@ fn is_begun<W: Words>(words: &W, place: u32) -> bool
     requires place { place < 4096 }
     ensures is { result ≡ is_begun (image_in (W.present words.now)).live place }
 {
-    let bits = kernel_image::load(words, Cell::LiveWord(place / 64));
+    let bits = kernel_image::load(words, Cell::LiveWord(place / PLACES));
     (bits >> (place / 2 % 32)) % 2 == 1
 }
 

@@ -13,6 +13,7 @@ use Rattle.kernel_image.specs.Agree.{Agrees, Both}
 use Rattle.kernel_image.specs.Decoded.{Decoded, RowWords, QueueWords, SemaphoreWords, row_at}
 use Rattle.kernel_image.specs.Shown.{line_of, is_ready_at, waits_for, timed_list}
 use Rattle.kernel_image.specs.Unread.{links_of, heads_of}
+use Rattle.thread_tree.specs.declared.limits.TheConstants.{ROWS, TARGETS}
 
 -- the heads of the waiting lists of a queue and of a semaphore
 abbrev pub heads_of_queue : QueueWords → List ℕ
@@ -41,9 +42,9 @@ links_in d = record {
 abbrev pub unlinked : Links
 unlinked = record {
   heads = replicate 9 0;
-  of_rows = replicate 16 (replicate 4 0);
-  of_queues = replicate 16 (replicate 2 0);
-  of_semaphores = replicate 16 (replicate 1 0);
+  of_rows = replicate ROWS (replicate 4 0);
+  of_queues = replicate TARGETS (replicate 2 0);
+  of_semaphores = replicate TARGETS (replicate 1 0);
 }
 
 -- an image has the rows of a kernel, and its threads in the order of its lists

@@ -17,6 +17,7 @@ ghost use Rattle.ready_delay_lists.specs.Lists.{AreListed, Bears, IsListed, IsAs
 use arrayvec::ArrayVec;
 use kernel_model::{Wait, What};
 use nv_memory::{Cut, Nv};
+use thread_tree::{ROWS, TARGETS};
 use undo_journal::{Open, Words};
 
 /// The calls on the lists of threads: the ready threads of each priority, the timed ones, and those that wait for a
@@ -28,7 +29,7 @@ pub trait ListCalls {
     /// Takes a live thread, 0 to 15, out of its lists. Its row counts as free then, and still bears what the lists go
     /// by.
     fn leave_all<N: Nv>(tx: &mut Open<N>, thread: u32) -> Result<(), Cut>
-        requires thread { thread < 16 }
+        requires thread { thread < ROWS }
         requires listed { (K : State) × (known : Thread) × IsListed (image_in (N.words tx.old)) K thread known }
         requires room { 10 ≤ room_of (N.words tx.old) }
         ensures listed { OnOk result ((K : State) (known : Thread) → IsListed (image_in (N.words tx.old)) K thread known → AreListed (image_in (N.words tx.new)) (with_row K thread Free)) }
@@ -41,7 +42,7 @@ pub trait ListCalls {
 
     /// Puts a thread, 0 to 15, that stands in no list behind its equals: it is ready.
     fn make_ready<N: Nv>(tx: &mut Open<N>, thread: u32) -> Result<(), Cut>
-        requires thread { thread < 16 }
+        requires thread { thread < ROWS }
         requires listed { (K : State) × (known : Thread) × IsAside (image_in (N.words tx.old)) K thread known × HasStamp K }
         requires room { 7 ≤ room_of (N.words tx.old) }
         ensures listed { OnOk result ((K : State) (known : Thread) → IsAside (image_in (N.words tx.old)) K thread known → AreListed (image_in (N.words tx.new)) (stands_behind K thread known Ready)) }
@@ -53,8 +54,8 @@ pub trait ListCalls {
 
     /// Lets a thread, 0 to 15, that stands in no list wait behind its equals.
     fn put_waiting<N: Nv>(tx: &mut Open<N>, thread: u32, wait: Wait) -> Result<(), Cut>
-        requires thread { thread < 16 }
-        requires target { wait.target < 16 }
+        requires thread { thread < ROWS }
+        requires target { wait.target < TARGETS }
         requires value { wait.value ≡ value_for wait.what wait.value }
         requires listed { (K : State) × (known : Thread) × IsAside (image_in (N.words tx.old)) K thread known × HasStamp K }
         requires room { 24 ≤ room_of (N.words tx.old) }
@@ -67,7 +68,7 @@ pub trait ListCalls {
 
     /// Delays a thread, 0 to 15, that stands in no list until a tick.
     fn put_timed<N: Nv>(tx: &mut Open<N>, thread: u32, wake: u32) -> Result<(), Cut>
-        requires thread { thread < 16 }
+        requires thread { thread < ROWS }
         requires listed { (K : State) × (known : Thread) × IsAside (image_in (N.words tx.old)) K thread known }
         requires room { 10 ≤ room_of (N.words tx.old) }
         ensures listed { OnOk result ((K : State) (known : Thread) → IsAside (image_in (N.words tx.old)) K thread known → AreListed (image_in (N.words tx.new)) (stands_timed K thread known wake)) }
@@ -79,7 +80,7 @@ pub trait ListCalls {
 
     /// Puts a ready thread, 0 to 15, behind its equals.
     fn rotate<N: Nv>(tx: &mut Open<N>, thread: u32) -> Result<(), Cut>
-        requires thread { thread < 16 }
+        requires thread { thread < ROWS }
         requires listed { (K : State) × (known : Thread) × IsListed (image_in (N.words tx.old)) K thread known × (known.activity ≡ Ready) × HasStamp K }
         requires room { 10 ≤ room_of (N.words tx.old) }
         ensures listed { OnOk result ((K : State) (known : Thread) → IsListed (image_in (N.words tx.old)) K thread known → known.activity ≡ Ready → AreListed (image_in (N.words tx.new)) (behind K thread (λ same. same))) }
@@ -92,7 +93,7 @@ pub trait ListCalls {
     /// Gives a live thread, 0 to 15, a priority, and puts it behind its equals in each of its lists. The same priority
     /// changes nothing.
     fn set_priority<N: Nv>(tx: &mut Open<N>, thread: u32, priority: u32) -> Result<(), Cut>
-        requires thread { thread < 16 }
+        requires thread { thread < ROWS }
         requires priority { priority ≤ 7 }
         requires listed { (K : State) × (known : Thread) × IsListed (image_in (N.words tx.old)) K thread known × HasStamp K }
         requires room { 23 ≤ room_of (N.words tx.old) }
@@ -106,43 +107,43 @@ pub trait ListCalls {
     /// The first of those that wait for this, on the queue or the semaphore of this number, 0 to 15. `None` exactly where
     /// nobody waits so.
     fn first_waiting<W: Words>(words: &W, what: What, target: u32) -> Option<u32>
-        requires target { target < 16 }
+        requires target { target < TARGETS }
         requires listed { (K : State) × AreListed (image_in (W.present words.now)) K }
         ensures first { (p : Program) (K : State) → IsSound p K → AreListed (image_in (W.present words.now)) K → result ≡ first K what target }
-        ensures thread { IfSome result (λ t. t < 16) };
+        ensures thread { IfSome result (λ t. t < ROWS) };
 
     /// The least thread whose delay or wait ends by the tick count. `None` exactly where there is none.
     fn due<W: Words>(words: &W) -> Option<u32>
         requires listed { (K : State) × AreListed (image_in (W.present words.now)) K }
         ensures due { (K : State) → AreListed (image_in (W.present words.now)) K → result ≡ due (image_in (W.present words.now)).ticks K }
-        ensures thread { IfSome result (λ t. t < 16) };
+        ensures thread { IfSome result (λ t. t < ROWS) };
 
     /// The value that a thread, 0 to 15, waits to send; 0 where it waits to send none.
     fn value_sent<W: Words>(words: &W, thread: u32) -> u32
-        requires thread { thread < 16 }
+        requires thread { thread < ROWS }
         requires listed { (K : State) × AreListed (image_in (W.present words.now)) K }
         ensures value { (K : State) → AreListed (image_in (W.present words.now)) K → result ≡ value_sent K thread };
 
     /// Whether another ready thread has the priority of this one, 0 to 15, which is ready.
     fn has_equals<W: Words>(words: &W, thread: u32) -> bool
-        requires thread { thread < 16 }
+        requires thread { thread < ROWS }
         requires listed { (K : State) × (known : Thread) × IsListed (image_in (W.present words.now)) K thread known × (known.activity ≡ Ready) }
         ensures equals { (K : State) (known : Thread) → IsListed (image_in (W.present words.now)) K thread known → known.activity ≡ Ready → result ≡ has_equals K thread known };
 
     /// The ready threads of a priority, the next one first.
-    fn ready_list<W: Words>(words: &W, priority: u32) -> ArrayVec<u32, 16>
+    fn ready_list<W: Words>(words: &W, priority: u32) -> ArrayVec<u32, ROWS>
         requires priority { priority ≤ 7 }
         requires listed { (K : State) × AreListed (image_in (W.present words.now)) K }
         ensures ready { result.items ≡ ready_in (image_in (W.present words.now)) priority };
 
     /// The threads that a tick wakes, in order of tick and then number.
-    fn timed_list<W: Words>(words: &W) -> ArrayVec<u32, 16>
+    fn timed_list<W: Words>(words: &W) -> ArrayVec<u32, ROWS>
         requires listed { (K : State) × AreListed (image_in (W.present words.now)) K }
         ensures timed { result.items ≡ timed_in (image_in (W.present words.now)) };
 
     /// The threads that wait for this, on the queue or the semaphore of this number, 0 to 15, the first one first.
-    fn waiting_list<W: Words>(words: &W, what: What, target: u32) -> ArrayVec<u32, 16>
-        requires target { target < 16 }
+    fn waiting_list<W: Words>(words: &W, what: What, target: u32) -> ArrayVec<u32, ROWS>
+        requires target { target < TARGETS }
         requires listed { (K : State) × AreListed (image_in (W.present words.now)) K }
         ensures waiting { result.items ≡ waiting_in (image_in (W.present words.now)) what target };
 }

@@ -11,3 +11,5 @@ mod KeptLaws
 mod CountLaws
 mod RowLaws
 mod StandsAt
+mod StrictLaws
+mod ZeroLaws

@@ -26,12 +26,13 @@ pub life_more : (p : Program) (old new : RowWords) (thread later : Thread) (r : 
 life_more p old new thread later r life more relived =
     let same : start_in new ≡ start_in old = ap start_in more.rest in
     let pushed = sum_by_push words_in life.records r in
+    let count = ap (λ (row : RowWords). row.start_count) more.rest in
     record {
       records = life.records ++ r ∷ [];
       words = more.words ∙ ap (λ (ws : List ℕ). ws ++ r.kind ∷ r.results) life.words ∙ sym (encoded_more life.records r);
       relived = subst (λ (start : Start). IsRelived p start (life.records ++ r ∷ []) later) (sym same) relived;
       used = omega (arith, more.used, life.used, life.relived.owes, relived.owes, pushed);
-      few = subst (λ (n : ℕ). n ≤ 16) (sym (ap (λ (row : RowWords). row.start_count) more.rest)) life.few;
+      few = omega (arith, count, life.few);
     }
 
 -- the life of a row depends on its start and its records alone; its start values are few
@@ -41,7 +42,7 @@ life_kept p old new thread start words used few life = record {
   words = words ∙ life.words;
   relived = subst (λ (start : Start). IsRelived p start life.records thread) (sym start) life.relived;
   used = used ∙ life.used;
-  few = few;
+  few = omega (arith, few);
 }
 
 -- a row with one record more agrees with the thread that was served

@@ -67,7 +67,7 @@ pub context_ended : (p : Program) (contexts : List (Option Ctx)) (krows : List k
 context_ended p contexts krows t r both e = both_set (HasContext p) contexts krows t None r both (none-there p r e)
 
 -- a live thread is one of the rows
-live_within : (krows : List kernel.Row) (t : ℕ) (thread : Thread) → live_in (slice_index_or krows t Free) ≡ Some thread → t < length krows
+pub live_within : (krows : List kernel.Row) (t : ℕ) (thread : Thread) → live_in (slice_index_or krows t Free) ≡ Some thread → t < length krows
 live_within [] t thread e = absurd (let f : ◌≡◌ {A = Option Thread} None (Some thread) = e in cc)
 live_within (k ∷ krows) zero thread e = omega arith
 live_within (k ∷ krows) (suc t) thread e = let rest = live_within krows t thread e in omega (arith, rest)

@@ -1,13 +1,11 @@
 -- The values with which the thread of a row starts.
-use Rattle.std.proofs.Common.{◌≡◌, ℕ, ◌+◌, ◌<◌, ◌≤◌, List, [], ◌∷◌, ◌++◌, inl, inr, ap, sym, ◌∙◌, arith, length, take, slice_index, set, get_or}
-use Rattle.std.proofs.lemmas.Bool.{cases_lt}
-use Rattle.std.proofs.lemmas.List.{take_all, take_more}
+use Rattle.std.proofs.Common.{◌≡◌, ℕ, ◌+◌, ◌<◌, List, [], ◌∷◌, ◌++◌, ap, sym, ◌∙◌, arith, length, take, slice_index, set, get_or}
+use Rattle.std.proofs.lemmas.List.{take_more}
 use Rattle.std.proofs.lemmas.List.Edits.{paste_more}
 use Rattle.std.proofs.lemmas.List.FromFn.{get_or-map-range_with_len, length-map-range_with_len}
 use Rattle.std.proofs.Math.Seq.{paste}
-use Rattle.std.specs.Prelude.{min}
 use Rattle.kernel_image.specs.declared.cell.Cell.{Cell}
-use Rattle.kernel_image.specs.declared.cell.Cell.TheVariants.{RowWord, StartValue}
+use Rattle.kernel_image.specs.declared.cell.Cell.TheVariants.{StartValue}
 use Rattle.kernel_image.specs.Decoded.{Decoded, RowWords, listed, decoded_of, row_at, with_row}
 use Rattle.kernel_image.proofs.Callers.{row_at-decoded}
 use Rattle.replay_list.proofs.AppendLaws.{changed_again}
@@ -31,19 +29,6 @@ values_more word t i low within =
     let sized = values_many word t low in
     take_more xs i 0 (omega (arith, within, sized))
     ∙ ap (λ (x : ℕ). take i xs ++ x ∷ []) (value_word_at word t i low within)
-
--- no more values than there are words for
-pub values_all : (word : Cell → ℕ) (t n : ℕ) → t < 16 → n ≡ word (RowWord t 14) → take (min n 16) (row_at (decoded_of word) t).start_values ≡ take (row_at (decoded_of word) t).start_count (row_at (decoded_of word) t).start_values
-values_all word t n low is =
-    let xs = (row_at (decoded_of word) t).start_values in
-    let sized = values_many word t low in
-    let count : n ≡ (row_at (decoded_of word) t).start_count = is ∙ sym (ap (λ (row : RowWords). row.start_count) (row_at-decoded word t low)) in
-    elim (cases_lt n 16) [
-      | inl within ↦ ap (λ (m : ℕ). take m xs) (let e : min n 16 ≡ n = omega (arith, within) in e ∙ count)
-      | inr past ↦ let all : length xs ≤ min n 16 = omega (arith, sized, past) in
-          let long : length xs ≤ (row_at (decoded_of word) t).start_count = omega (arith, sized, past, count) in
-          take_all (min n 16) xs all ∙ sym (take_all (row_at (decoded_of word) t).start_count xs long)
-    ]
 
 -- a row with other values
 abbrev with_values : RowWords → List ℕ → RowWords

@@ -2,3 +2,4 @@ pub mod Records
 pub mod Stands
 pub mod Kept
 pub mod Finished
+pub mod Zeros

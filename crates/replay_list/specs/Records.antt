@@ -5,6 +5,8 @@ use Rattle.thread_tree.specs.Kinds.{result_count}
 use Rattle.thread_tree.specs.Relive.{Start, Record}
 use Rattle.thread_tree.specs.Relive.Start.{Birth, Loop}
 use Rattle.kernel_image.specs.Decoded.{Decoded, RowWords, row_at, with_row}
+use Rattle.thread_tree.specs.declared.limits.TheConstants.{RECORD_WORDS}
+use Rattle.thread_tree.specs.declared.kinds.TheConstants.{EACH_GIVEN}
 
 -- records one after another: the kind word of each, and its results
 abbrev pub encoded : List Record → List ℕ
@@ -13,7 +15,7 @@ encoded (r ∷ rs) = r.kind ∷ (r.results ++ encoded rs)
 
 -- how many results a record has that begins with this kind word
 abbrev pub results_of : ℕ → ℕ
-results_of kind_word = result_count (kind_word % 256) (kind_word / 256)
+results_of kind_word = result_count (kind_word % EACH_GIVEN) (kind_word / EACH_GIVEN)
 
 -- a record has as many results as its kind word says
 abbrev pub IsFit : Record → Type 0
@@ -52,4 +54,4 @@ pub record HasRecords (row : RowWords) (count : ℕ) : Type 0 where
   pub words : recorded row ≡ encoded records
   pub fit : AreFit records
   pub many : count ≡ length records
-  pub few : row.used ≤ 256
+  pub few : row.used ≤ RECORD_WORDS

@@ -20,6 +20,7 @@ use Rattle.kernel_image.specs.Decoded.{listed}
 use Rattle.kernel_image.specs.Unread.{IsUnread}
 use Rattle.persistent_objects.specs.Layout.{IsLaidOut}
 use Rattle.replay_list.specs.Records.{encoded, recorded, start_in}
+use Rattle.thread_tree.specs.declared.limits.TheConstants.{START_VALUES, ROWS}
 
 -- the start and the records in a row give its thread back, the words of the records are what it owes, and the values of
 -- the start are among the sixteen
@@ -28,7 +29,7 @@ pub record IsLife (p : Program) (row : RowWords) (thread : Thread) : Type 0 wher
   pub words : recorded row ≡ encoded records
   pub relived : IsRelived p (start_in row) records thread
   pub used : row.used ≡ thread.debt
-  pub few : row.start_count ≤ 16
+  pub few : row.start_count ≤ START_VALUES
 
 -- a live thread's row has its life
 abbrev pub HasLife : Program → RowWords → kernel.Row → Type 0
@@ -66,7 +67,7 @@ pub record Stands (p : Program) (d : Decoded) (K : State) : Type 0 where
   pub layout : IsLaidOut d.heap d.first_hole first_place K.objects
   pub unread : IsUnread p d
   pub stamp : d.stamp ≡ K.stamp
-  pub few_stamps : K.stamp ≤ 16 + 17 * K.events
+  pub few_stamps : K.stamp ≤ ROWS + 17 * K.events
 
 -- a context stands for the local state of a live thread
 pub record IsContextOf (p : Program) (ctx : Ctx) (thread : Thread) : Type 0 where

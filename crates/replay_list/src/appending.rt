@@ -7,15 +7,16 @@ ghost use Rattle.kernel_image.specs.Decoded.{image_in, row_at, with_row};
 ghost use Rattle.replay_list.specs.Records.{IsAppended};
 
 use crate::reading::words_used;
-use kernel_image::{Cell, store};
+use kernel_image::{Cell, USED, store};
 use nv_memory::{Cut, Nv};
+use thread_tree::{RECORD_WORDS, ROWS};
 use undo_journal::Open;
 
 // Stores a word of the records of a thread.
 #[tactic(auto, using(kernel_image::proofs::Callers::store_laws))]
 fn store_word<N: Nv>(tx: &mut Open<N>, thread: u32, at: u32, word: u32) -> Result<(), Cut>
-    requires thread { thread < 16 }
-    requires within { at < 256 }
+    requires thread { thread < ROWS }
+    requires within { at < RECORD_WORDS }
     requires room { 1 ≤ room_of (N.words tx.old) }
     ensures stored { OnOk result (image_in (N.words tx.new) ≡ with_row (image_in (N.words tx.old)) thread (record (row_at (image_in (N.words tx.old)) thread) { records = slice_set (row_at (image_in (N.words tx.old)) thread).records at word })) }
     ensures cut { IsErr result → IsShort (N.left tx.old) 4 }
@@ -30,7 +31,7 @@ fn store_word<N: Nv>(tx: &mut Open<N>, thread: u32, at: u32, word: u32) -> Resul
 // Stores how many words of the records of a thread are used.
 #[tactic(auto, using(kernel_image::proofs::Callers::store_laws))]
 fn store_used<N: Nv>(tx: &mut Open<N>, thread: u32, used: u32) -> Result<(), Cut>
-    requires thread { thread < 16 }
+    requires thread { thread < ROWS }
     requires room { 1 ≤ room_of (N.words tx.old) }
     ensures stored { OnOk result (image_in (N.words tx.new) ≡ with_row (image_in (N.words tx.old)) thread (record (row_at (image_in (N.words tx.old)) thread) { used = used })) }
     ensures cut { IsErr result → IsShort (N.left tx.old) 4 }
@@ -38,7 +39,7 @@ fn store_used<N: Nv>(tx: &mut Open<N>, thread: u32, used: u32) -> Result<(), Cut
     ensures lent { IsLent N.Nv tx.old tx.new }
     ensures within { OnOk result (IsWithin N.Nv tx.old tx.new 1) }
 {
-    store(tx, Cell::RowWord(thread, 15), used)?;
+    store(tx, Cell::RowWord(thread, USED), used)?;
     Ok(())
 }
 
@@ -49,9 +50,9 @@ fn store_results<N: Nv>(
     from: u32,
     results: &[u32],
 ) -> Result<(), Cut>
-    requires thread { thread < 16 }
+    requires thread { thread < ROWS }
     requires few { length results.now ≤ 4 }
-    requires fits { from + length results.now ≤ 256 }
+    requires fits { from + length results.now ≤ RECORD_WORDS }
     requires room { 4 ≤ room_of (N.words tx.old) }
     ensures stored { OnOk result (image_in (N.words tx.new) ≡ with_row (image_in (N.words tx.old)) thread (record (row_at (image_in (N.words tx.old)) thread)
         { records = take from (row_at (image_in (N.words tx.old)) thread).records ++ (results.now ++ drop (from + length results.now) (row_at (image_in (N.words tx.old)) thread).records) })) }
@@ -75,9 +76,9 @@ pub fn append<N: Nv>(
     kind_word: u32,
     results: &[u32],
 ) -> Result<(), Cut>
-    requires thread { thread < 16 }
+    requires thread { thread < ROWS }
     requires few { length results.now ≤ 4 }
-    requires fits { (row_at (image_in (N.words tx.old)) thread).used + 1 + length results.now ≤ 256 }
+    requires fits { (row_at (image_in (N.words tx.old)) thread).used + 1 + length results.now ≤ RECORD_WORDS }
     requires room { 6 ≤ room_of (N.words tx.old) }
     ensures appended { OnOk result (IsAppended thread kind_word results.now (image_in (N.words tx.old)) (image_in (N.words tx.new))) }
     ensures cut { IsErr result → IsShort (N.left tx.old) 24 }
@@ -94,7 +95,7 @@ pub fn append<N: Nv>(
 
 /// Empties the records of a thread, 0 to 15. On `Cut` fewer than four writes were left, and none is left.
 pub fn clear<N: Nv>(tx: &mut Open<N>, thread: u32) -> Result<(), Cut>
-    requires thread { thread < 16 }
+    requires thread { thread < ROWS }
     requires room { 1 ≤ room_of (N.words tx.old) }
     ensures cleared { OnOk result (image_in (N.words tx.new) ≡ with_row (image_in (N.words tx.old)) thread (record (row_at (image_in (N.words tx.old)) thread) { used = 0 })) }
     ensures cut { IsErr result → IsShort (N.left tx.old) 4 }

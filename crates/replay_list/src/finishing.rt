@@ -8,6 +8,7 @@ ghost use Rattle.thread_tree.specs.LocalState.{next_action};
 ghost use Rattle.thread_tree.specs.Program.{Program, program_of};
 ghost use Rattle.thread_machine.specs.Context.{local_of};
 ghost use Rattle.thread_machine.specs.declared.context.Ctx.{Ctx};
+ghost use Rattle.thread_machine.specs.Reached.{IsContext};
 ghost use Rattle.kernel_image.specs.Decoded.{image_in, row_at};
 ghost use Rattle.replay_list.specs.Finished.{IsUnfinished, IsGiven, IsFinished};
 
@@ -15,7 +16,7 @@ use crate::appending::append;
 use nv_memory::{Cut, Nv};
 use thread_check::Checked;
 use thread_machine::{Contexts, Ctx};
-use thread_tree::{Stmt, kind_of_call};
+use thread_tree::{ATOMIC, EACH_GIVEN, RECORD_WORDS, ROWS, Stmt, TURN, kind_of_call};
 use undo_journal::Open;
 
 // The kind word of the record of an action with at most four results.
@@ -25,9 +26,9 @@ fn kind_word_of(statement: &Stmt) -> u32
     ensures kind { (p : Program) → IfSome (action_of p statement.now) (λ action. result ≡ kind_word action.kind action.given) }
 {
     match statement {
-        Stmt::Atomic(_, to, _) => 16 + 256 * to.len().saturating_sub(1) as u32,
+        Stmt::Atomic(_, to, _) => ATOMIC + EACH_GIVEN * to.len().saturating_sub(1) as u32,
         Stmt::Call(_, call, _) => kind_of_call(call),
-        Stmt::Ploop(..) => 14,
+        Stmt::Ploop(..) => TURN,
         Stmt::Let(..) | Stmt::Set(..) | Stmt::Apply(..) | Stmt::If(..) => 0,
         Stmt::While(..) | Stmt::Break(..) | Stmt::Return(..) => 0,
     }
@@ -35,6 +36,7 @@ fn kind_word_of(statement: &Stmt) -> u32
 
 // The kind word of the record of the action at which a context stands.
 fn kind_word_at(program: &Checked, ctx: &Ctx) -> u32
+    requires context { IsContext (program_of program.now) ctx.now }
     requires action { IsSomeAnd (next_action (program_of program.now) (local_of (program_of program.now) ctx.now)) (λ action. result_count action.kind action.given ≤ 4) }
     ensures kind { IfSome (next_action (program_of program.now) (local_of (program_of program.now) ctx.now)) (λ action. result ≡ kind_word action.kind action.given) }
 {
@@ -57,7 +59,7 @@ fn kind_word_for(program: &Checked, contexts: &Contexts, thread: u32, results: &
 
 // Gives a thread the results of the action at which it stands.
 fn give(program: &Checked, contexts: &mut Contexts, thread: u32, results: &[u32])
-    requires thread { thread < 16 }
+    requires thread { thread < ROWS }
     requires unfinished { (ctx : Ctx) × (action : Action) × IsUnfinished (program_of program.now) contexts.old thread results.now ctx action }
     ensures given { (ctx : Ctx) (action : Action) → IsUnfinished (program_of program.now) contexts.old thread results.now ctx action → IsGiven (program_of program.now) thread results.now ctx contexts.old contexts.new }
 {
@@ -80,10 +82,10 @@ pub fn finish<N: Nv>(
     thread: u32,
     results: &[u32],
 ) -> Result<(), Cut>
-    requires thread { thread < 16 }
+    requires thread { thread < ROWS }
     requires few { length results.now ≤ 4 }
     requires unfinished { (ctx : Ctx) × (action : Action) × IsUnfinished (program_of program.now) contexts.old thread results.now ctx action }
-    requires fits { (row_at (image_in (N.words tx.old)) thread).used + 1 + length results.now ≤ 256 }
+    requires fits { (row_at (image_in (N.words tx.old)) thread).used + 1 + length results.now ≤ RECORD_WORDS }
     requires room { 6 ≤ room_of (N.words tx.old) }
     ensures finished { OnOk result ((ctx : Ctx) (action : Action) → IsUnfinished (program_of program.now) contexts.old thread results.now ctx action
         → IsFinished (program_of program.now) thread results.now ctx action (image_in (N.words tx.old)) (image_in (N.words tx.new)) contexts.old contexts.new) }

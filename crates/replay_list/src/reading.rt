@@ -6,30 +6,31 @@ ghost use Rattle.replay_list.specs.Records.{encoded, recorded, results_of, AreFi
 
 use crate::record::Record;
 use arrayvec::ArrayVec;
-use kernel_image::{Cell, load};
+use kernel_image::{Cell, USED, load};
+use thread_tree::{EACH_GIVEN, RECORD_WORDS, ROWS};
 use undo_journal::Words;
 
 /// How many words of the records of a thread are used, 0 to 256 for a thread of a kernel.
 #[tactic(auto, using(kernel_image::proofs::Callers::image_laws))]
 pub fn words_used<W: Words>(words: &W, thread: u32) -> u32
-    requires thread { thread < 16 }
+    requires thread { thread < ROWS }
     ensures used { result ≡ (row_at (image_in (W.present words.now)) thread).used }
 {
-    load(words, Cell::RowWord(thread, 15))
+    load(words, Cell::RowWord(thread, USED))
 }
 
 /// How many results a record has that begins with this kind word.
 pub fn result_count(kind_word: u32) -> u32
     ensures count { result ≡ results_of kind_word }
 {
-    thread_tree::result_count(kind_word % 256, kind_word / 256)
+    thread_tree::result_count(kind_word % EACH_GIVEN, kind_word / EACH_GIVEN)
 }
 
 /// The word at this place of the records of a thread, counted from 0.
 #[tactic(auto, using(crate::proofs::LawSets::word_laws))]
 pub fn record_word<W: Words>(words: &W, thread: u32, at: u32) -> u32
-    requires thread { thread < 16 }
-    requires within { at < 256 }
+    requires thread { thread < ROWS }
+    requires within { at < RECORD_WORDS }
     ensures word { result ≡ slice_index (row_at (image_in (W.present words.now)) thread).records at }
 {
     load(words, Cell::RecordWord(thread, at))
@@ -38,9 +39,9 @@ pub fn record_word<W: Words>(words: &W, thread: u32, at: u32) -> u32
 // So many words of the records of a thread, from one on.
 #[tactic(auto, using(crate::proofs::LawSets::word_laws))]
 fn results_at<W: Words>(words: &W, thread: u32, from: u32, count: u32) -> ArrayVec<u32, 4>
-    requires thread { thread < 16 }
+    requires thread { thread < ROWS }
     requires few { count ≤ 4 }
-    requires within { from + count ≤ 256 }
+    requires within { from + count ≤ RECORD_WORDS }
     ensures results { result.items ≡ take count (drop from (row_at (image_in (W.present words.now)) thread).records) }
     ensures count { length result.items ≡ count }
 {
@@ -55,9 +56,9 @@ fn results_at<W: Words>(words: &W, thread: u32, from: u32, count: u32) -> ArrayV
 /// within the 256 words.
 #[tactic(auto, using(crate::proofs::LawSets::word_laws))]
 pub fn record_at<W: Words>(words: &W, thread: u32, from: u32) -> Record
-    requires thread { thread < 16 }
+    requires thread { thread < ROWS }
     requires few { results_of (slice_index (row_at (image_in (W.present words.now)) thread).records from) ≤ 4 }
-    requires within { from + 1 + results_of (slice_index (row_at (image_in (W.present words.now)) thread).records from) ≤ 256 }
+    requires within { from + 1 + results_of (slice_index (row_at (image_in (W.present words.now)) thread).records from) ≤ RECORD_WORDS }
     ensures kind { result.kind ≡ slice_index (row_at (image_in (W.present words.now)) thread).records from }
     ensures results { result.results.items ≡ take (results_of result.kind) (drop (from + 1) (row_at (image_in (W.present words.now)) thread).records) }
     ensures after { result.after ≡ from + 1 + length result.results.items }
@@ -75,9 +76,9 @@ pub fn record_at<W: Words>(words: &W, thread: u32, from: u32) -> Record
 /// How many records a thread has. Its words are records of the kinds that they begin with.
 #[tactic(auto, using(crate::proofs::LawSets::count_laws))]
 pub fn record_count<W: Words>(words: &W, thread: u32) -> u32
-    requires thread { thread < 16 }
+    requires thread { thread < ROWS }
     requires encoded { (rs : List relive.Record) × (recorded (row_at (image_in (W.present words.now)) thread) ≡ encoded rs) × AreFit rs }
-    requires within { (row_at (image_in (W.present words.now)) thread).used ≤ 256 }
+    requires within { (row_at (image_in (W.present words.now)) thread).used ≤ RECORD_WORDS }
     ensures count { (rs : List relive.Record) → recorded (row_at (image_in (W.present words.now)) thread) ≡ encoded rs → AreFit rs → result ≡ length rs }
 {
     let used = words_used(words, thread);

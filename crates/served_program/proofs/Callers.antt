@@ -1,12 +1,9 @@
 -- What the crates above may cite of these proofs: laws, and sets of laws for `using`.
 pub use Rattle.served_program.proofs.ServedLaws.{is_served_tblock_out, is_served_tstmt_out, is_served_block_out, is_served_stmt_out, tstmts_served, tstmt_served_at}
-pub use Rattle.served_program.proofs.DeclarationLaws.{IsServedFunction, IsServedTemplate, Declares, served_declares}
-pub use Rattle.served_program.proofs.MoveLaws.{IsServedState, bind_served, things_served}
-pub use Rattle.served_program.proofs.ArrivalLaws.{Arrives, ahead_served}
-pub use Rattle.served_program.proofs.LoopLaws.{both_all}
+pub use Rattle.served_program.proofs.ActionLaws.{served_action}
 use Rattle.served_program.proofs.ServedLaws.{passes_at, stmts_served, stmt_served_at}
-use Rattle.served_program.proofs.DeclarationLaws.{served_one_start, served_no_queues, served_no_semaphores, served_no_loops, served_one_field, served_no_parameters}
-use Rattle.served_program.proofs.ArrivalLaws.{arrives_served}
+use Rattle.served_program.proofs.DeclarationLaws.{served_one_start, served_no_queues, served_no_semaphores, served_one_field, served_no_parameters}
+use Rattle.served_program.proofs.ActionLaws.{arrives_served, served_no_loops}
 
 -- an `atomic` block and its statements by layers, as equations
 pub ruleset transaction_laws = (is_served_tblock_out, is_served_tstmt_out)

@@ -1,5 +1,5 @@
 -- What the declarations of a served program declare.
-use Rattle.std.proofs.Common.{◌≡◌, ◌≤◌, true, false, ◌&&◌, ◌==◌, List, [], ◌∷◌, length, All, refl, arith, eqb-true}
+use Rattle.std.proofs.Common.{◌≡◌, ◌≤◌, false, ◌&&◌, ◌==◌, List, [], ◌∷◌, length, All, refl, arith, eqb-true}
 use Rattle.std.specs.Prelude.{IsTrue, nat_le}
 use Rattle.std.specs.List.{AllByRecursion, list_all}
 use Rattle.std.proofs.lemmas.Bool.{and_parts, leb-true, false≢true}
@@ -9,10 +9,8 @@ use Rattle.thread_tree.specs.declared.place.At.{At}
 use Rattle.thread_tree.specs.declared.tree.Decl.{Decl}
 use Rattle.thread_tree.specs.declared.tree.Decl.TheVariants as decl
 use Rattle.thread_tree.specs.declared.tree.Tree.{Tree}
-use Rattle.thread_tree.specs.Program.{Kind, Function, Template, Body, Program, names_of, sorted, program_of}
-use Rattle.thread_tree.specs.Actions.{loops}
+use Rattle.thread_tree.specs.Program.{Kind, Template, Program, names_of, sorted, program_of}
 use Rattle.served_program.specs.Served.{is_served_block, is_served_decl, is_served}
-use Rattle.served_program.proofs.LoopLaws.{no_loops}
 
 -- no parameter
 none_of : (ats : List At) → IsTrue (length ats == 0) → names_of ats ≡ []
@@ -23,85 +21,47 @@ none_of (at ∷ ats) h = absurd (let e : length (at ∷ ats) ≡ 0 = eqb-true (l
 abbrev pub IsSmallKind : Kind → Type 0
 IsSmallKind kind = length kind.fields ≤ 1
 
--- a thread without parameters whose body is served
-abbrev pub IsServedTemplate : Template → Type 0
-IsServedTemplate template = (template.parameters ≡ []) × IsTrue (is_served_block template.body)
-
--- a function whose body is served
-abbrev pub IsServedFunction : Function → Type 0
-IsServedFunction function = IsTrue (is_served_block function.body)
-
--- a body that is served
-abbrev pub IsServedBody : Body → Type 0
-IsServedBody body = IsTrue (is_served_block body.block)
+-- a thread without parameters
+abbrev HasNoParameters : Template → Type 0
+HasNoParameters template = template.parameters ≡ []
 
 -- what a served program declares
-pub record Declares (p : Program) : Type 0 where
+record Declares (p : Program) : Type 0 where
   pub queues : p.queues ≡ []
   pub semaphores : p.semaphores ≡ []
   pub kinds : AllByRecursion IsSmallKind p.kinds
-  pub templates : AllByRecursion IsServedTemplate p.templates
-  pub functions : AllByRecursion IsServedFunction p.functions
-  pub bodies : AllByRecursion IsServedBody p.bodies
+  pub templates : AllByRecursion HasNoParameters p.templates
 
 -- one declaration after another
 sorted_declares : (ds : List Decl) → IsTrue (list_all is_served_decl ds) → Declares (sorted ds)
-sorted_declares [] h = record { queues = refl; semaphores = refl; kinds = tt; templates = tt; functions = tt; bodies = tt }
+sorted_declares [] h = record { queues = refl; semaphores = refl; kinds = tt; templates = tt }
 sorted_declares (decl.Kind name fields ∷ ds) h =
     let both = and_parts (nat_le (length fields) 1) (list_all is_served_decl ds) h in
     let rest = sorted_declares ds both.1 in
     let few : length fields ≤ 1 = leb-true (length fields) 1 both.0 in
     let same : length (names_of fields) ≡ length fields = length-map fields (λ (at : At). at.name) in
-    record {
-      queues = rest.queues;
-      semaphores = rest.semaphores;
-      kinds = (omega arith, rest.kinds);
-      templates = rest.templates;
-      functions = rest.functions;
-      bodies = rest.bodies;
-    }
-sorted_declares (decl.Object name kind ∷ ds) h =
-    let rest = sorted_declares ds (and_parts true (list_all is_served_decl ds) h).1 in
-    record { queues = rest.queues; semaphores = rest.semaphores; kinds = rest.kinds; templates = rest.templates; functions = rest.functions; bodies = rest.bodies }
+    record { queues = rest.queues; semaphores = rest.semaphores; kinds = (omega arith, rest.kinds); templates = rest.templates }
 sorted_declares (decl.Queue name capacity channel ∷ ds) h = absurd (false≢true (and_parts false (list_all is_served_decl ds) h).0)
 sorted_declares (decl.Semaphore name count maximum ∷ ds) h = absurd (false≢true (and_parts false (list_all is_served_decl ds) h).0)
-sorted_declares (decl.Function name parameters body ∷ ds) h =
-    let both = and_parts (is_served_block body) (list_all is_served_decl ds) h in
-    let rest = sorted_declares ds both.1 in
-    record {
-      queues = rest.queues;
-      semaphores = rest.semaphores;
-      kinds = rest.kinds;
-      templates = rest.templates;
-      functions = (both.0, rest.functions);
-      bodies = (both.0, rest.bodies);
-    }
 sorted_declares (decl.Thread name parameters priority body ∷ ds) h =
     let both = and_parts (length parameters == 0 && is_served_block body) (list_all is_served_decl ds) h in
     let own = and_parts (length parameters == 0) (is_served_block body) both.0 in
     let rest = sorted_declares ds both.1 in
-    record {
-      queues = rest.queues;
-      semaphores = rest.semaphores;
-      kinds = rest.kinds;
-      templates = ((none_of parameters own.0, own.1), rest.templates);
-      functions = rest.functions;
-      bodies = (own.1, rest.bodies);
-    }
-sorted_declares (decl.Start place name arguments ∷ ds) h =
-    let rest = sorted_declares ds (and_parts true (list_all is_served_decl ds) h).1 in
-    record { queues = rest.queues; semaphores = rest.semaphores; kinds = rest.kinds; templates = rest.templates; functions = rest.functions; bodies = rest.bodies }
+    record { queues = rest.queues; semaphores = rest.semaphores; kinds = rest.kinds; templates = (none_of parameters own.0, rest.templates) }
+sorted_declares (d ∷ ds) h =
+    let rest = sorted_declares ds (and_parts (is_served_decl d) (list_all is_served_decl ds) h).1 in
+    record { queues = rest.queues; semaphores = rest.semaphores; kinds = rest.kinds; templates = rest.templates }
 
 -- the parts of the definition
-served_parts : (tree : Tree) → IsTrue (is_served tree) → IsTrue (list_all is_served_decl tree.decls) × IsTrue (nat_le (length (program_of tree).starts) 1)
+pub served_parts : (tree : Tree) → IsTrue (is_served tree) → IsTrue (list_all is_served_decl tree.decls) × IsTrue (nat_le (length (program_of tree).starts) 1)
 unfolding is_served
 served_parts tree h = and_parts (list_all is_served_decl tree.decls) (nat_le (length (program_of tree).starts) 1) h
 
 -- what a served program declares
-pub served_declares : (tree : Tree) → IsTrue (is_served tree) → Declares (program_of tree)
+served_declares : (tree : Tree) → IsTrue (is_served tree) → Declares (program_of tree)
 served_declares tree h =
     let rest = sorted_declares tree.decls (served_parts tree h).0 in
-    record { queues = rest.queues; semaphores = rest.semaphores; kinds = rest.kinds; templates = rest.templates; functions = rest.functions; bodies = rest.bodies }
+    record { queues = rest.queues; semaphores = rest.semaphores; kinds = rest.kinds; templates = rest.templates }
 
 -- at most one thread is started
 pub served_one_start : (tree : Tree) → IsTrue (is_served tree) → length (program_of tree).starts ≤ 1
@@ -113,17 +73,8 @@ served_no_queues tree h = (served_declares tree h).queues
 pub served_no_semaphores : (tree : Tree) → IsTrue (is_served tree) → (program_of tree).semaphores ≡ []
 served_no_semaphores tree h = (served_declares tree h).semaphores
 
-pub served_no_loops : (tree : Tree) → IsTrue (is_served tree) → loops (program_of tree) ≡ []
-served_no_loops tree h = no_loops (program_of tree) (served_declares tree h).bodies
-
 pub served_one_field : (tree : Tree) → IsTrue (is_served tree) → All (λ kind. length kind.fields ≤ 1) (program_of tree).kinds
 served_one_field tree h = All-from_recursion IsSmallKind (program_of tree).kinds (served_declares tree h).kinds
 
--- threads without parameters, from what templates are
-without_parameters : (templates : List Template) → AllByRecursion IsServedTemplate templates → AllByRecursion (λ template. template.parameters ≡ []) templates
-without_parameters [] h = tt
-without_parameters (template ∷ templates) h = (h.0.0, without_parameters templates h.1)
-
 pub served_no_parameters : (tree : Tree) → IsTrue (is_served tree) → All (λ template. template.parameters ≡ []) (program_of tree).templates
-served_no_parameters tree h =
-    All-from_recursion (λ (template : Template). template.parameters ≡ []) (program_of tree).templates (without_parameters (program_of tree).templates (served_declares tree h).templates)
+served_no_parameters tree h = All-from_recursion HasNoParameters (program_of tree).templates (served_declares tree h).templates

@@ -2,8 +2,5 @@ pub mod Callers
 mod Steps
 mod ServedLaws
 mod StartLaws
-mod Induction
-mod LoopLaws
 mod DeclarationLaws
-mod MoveLaws
-mod ArrivalLaws
+mod ActionLaws

@@ -5,7 +5,7 @@ use Rattle.thread_tree.specs.declared.tree.Decl.{Decl}
 use Rattle.thread_tree.specs.declared.tree.Decl.TheVariants as decl
 use Rattle.thread_tree.specs.Program.{sorted}
 use Rattle.served_program.specs.Served.{starts_in}
-use Rattle.served_program.proofs.Steps.{drop_at}
+use Rattle.thread_check.proofs.Callers.{drop_at}
 
 -- the threads that a declaration and others start
 pub starts_more : (d : Decl) (ds : List Decl) → length (sorted (d ∷ ds)).starts ≡ starts_in d + length (sorted ds).starts

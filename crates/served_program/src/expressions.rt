@@ -29,7 +29,7 @@ pub(crate) fn is_served_expr(expr: &Expr) -> bool
 }
 
 /// Whether all of these expressions of an `atomic` block are served.
-#[tactic(auto, using(crate::proofs::Steps::drop_at))]
+#[tactic(auto, using(thread_check::proofs::Callers::drop_at))]
 pub(crate) fn are_served(exprs: &List<Expr>) -> bool
     ensures served { result ≡ list_all is_served_expr exprs.now }
 {

@@ -24,7 +24,7 @@ fn is_served_decl(decl: &Decl) -> bool
 }
 
 /// Whether all declarations are served.
-#[tactic(auto, using(crate::proofs::Steps::drop_at))]
+#[tactic(auto, using(thread_check::proofs::Callers::drop_at))]
 fn are_served_decls(decls: &List<Decl>) -> bool
     ensures served { result ≡ list_all is_served_decl decls.now }
 {

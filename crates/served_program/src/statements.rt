@@ -66,7 +66,7 @@ pub(crate) fn is_served_block(block: &Block) -> bool
 
 /// Whether statements of a body are served.
 #[cycle(served_body)]
-#[tactic(auto, using(crate::proofs::Steps::drop_at, crate::proofs::ServedLaws::is_served_stmt_out))]
+#[tactic(auto, using(thread_check::proofs::Callers::drop_at, crate::proofs::ServedLaws::is_served_stmt_out))]
 fn are_served_stmts(stmts: &List<Stmt>) -> bool
     ensures served { result ≡ list_all is_served_stmt stmts.now }
 {

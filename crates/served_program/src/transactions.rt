@@ -49,7 +49,7 @@ pub(crate) fn is_served_tblock(block: &TBlock) -> bool
 
 /// Whether statements of an `atomic` block are served.
 #[cycle(served_transaction)]
-#[tactic(auto, using(crate::proofs::Steps::drop_at, crate::proofs::ServedLaws::is_served_tstmt_out))]
+#[tactic(auto, using(thread_check::proofs::Callers::drop_at, crate::proofs::ServedLaws::is_served_tstmt_out))]
 fn are_served_tstmts(stmts: &List<TStmt>) -> bool
     ensures served { result ≡ list_all is_served_tstmt stmts.now }
 {

@@ -20,6 +20,7 @@ use Rattle.thread_check.specs.Uses.{same_sort, used, fresh}
 use Rattle.thread_check.specs.Calls.{once}
 use Rattle.thread_check.specs.Blocks.{Rule}
 use Rattle.thread_check.specs.Statements.{block_rule}
+use Rattle.thread_tree.specs.declared.limits.TheConstants.{TARGETS, ROWS, DECLARED, ITEMS}
 
 -- whether a declaration is of this sort
 abbrev pub is_of_sort : Sort → Decl → Bool
@@ -90,28 +91,28 @@ unfoldable pub declaration_rule : Names → ℕ → Decl → Answer Scope
 declaration_rule names loops (decl.Kind name fields) =
     declared names sort.Kind kind.Types 32 name >> fields_rule [] fields >> Ok (no_scope loops)
 declaration_rule names loops (decl.Object name type_name) =
-    declared names sort.Object kind.Objects 64 name
+    declared names sort.Object kind.Objects DECLARED name
     >> used (with_declaration (decl.Object name type_name) names) (no_scope loops) sort.Kind type_name
     >> Ok (no_scope loops)
 declaration_rule names loops (decl.Queue name capacity channel) =
-    declared names sort.Queue kind.Queues 16 name
-    >> in_range capacity 1 48
+    declared names sort.Queue kind.Queues TARGETS name
+    >> in_range capacity 1 ITEMS
     >> channel_rule names channel
     >> Ok (no_scope loops)
 declaration_rule names loops (decl.Semaphore name count maximum) =
-    declared names sort.Semaphore kind.Semaphores 16 name
+    declared names sort.Semaphore kind.Semaphores TARGETS name
     >> in_range count 0 maximum.value
     >> in_range maximum 1 65535
     >> Ok (no_scope loops)
 declaration_rule names loops (decl.Function name parameters body) =
-    declared names sort.Function kind.Functions 64 name
+    declared names sort.Function kind.Functions DECLARED name
     >> (parameters_rule (with_declaration (decl.Function name parameters body) names) parameters (no_scope loops)
     >>= λ scope. block_rule (record names { in_function = true }) body scope)
 declaration_rule names loops (decl.Thread name parameters priority body) =
     declared names sort.Thread kind.Threads 32 name
     >> thread_body_rule (with_declaration (decl.Thread name parameters priority body) names) parameters priority body (no_scope loops)
 declaration_rule names loops (decl.Start place name numbers) =
-    within_limit place kind.Starts 16 (count_of sort.Start names.declarations + 1)
+    within_limit place kind.Starts ROWS (count_of sort.Start names.declarations + 1)
     >> used names (no_scope loops) sort.Thread name
     >> same_count name.place (arity names name.name) (length numbers)
     >> Ok (no_scope loops)
@@ -143,9 +144,9 @@ declarations_rule names loops (d ∷ ds) =
 -- of no sort there are more declarations than its limit
 pub record IsFew (declarations : List Decl) : Type 0 where
   pub types : count_of sort.Kind declarations ≤ 32
-  pub objects : count_of sort.Object declarations ≤ 64
-  pub queues : count_of sort.Queue declarations ≤ 16
-  pub semaphores : count_of sort.Semaphore declarations ≤ 16
-  pub functions : count_of sort.Function declarations ≤ 64
+  pub objects : count_of sort.Object declarations ≤ DECLARED
+  pub queues : count_of sort.Queue declarations ≤ TARGETS
+  pub semaphores : count_of sort.Semaphore declarations ≤ TARGETS
+  pub functions : count_of sort.Function declarations ≤ DECLARED
   pub threads : count_of sort.Thread declarations ≤ 32
-  pub starts : count_of sort.Start declarations ≤ 16
+  pub starts : count_of sort.Start declarations ≤ ROWS

@@ -6,6 +6,7 @@ use Rattle.thread_tree.specs.declared.place.At.{At}
 use Rattle.thread_check.specs.declared.peak.Peak.{Peak}
 use Rattle.thread_check.specs.declared.fault.Kind.TheVariants as kind
 use Rattle.thread_check.specs.Verdict.{Verdict, ◌>>◌, within_limit}
+use Rattle.thread_tree.specs.declared.limits.TheConstants.{LOCALS, BLOCKS}
 
 -- the locals in scope in order of declaration, the open blocks, whether a loop of this body or of
 -- this transaction is around, the persistent loops of the text so far, and the peak of the body so far
@@ -68,14 +69,14 @@ after_call callee scope = record scope {
 
 -- one local too many
 abbrev pub room_for_local : At → Scope → Verdict
-room_for_local at scope = within_limit at.place kind.Locals 48 (length scope.locals + 1)
+room_for_local at scope = within_limit at.place kind.Locals LOCALS (length scope.locals + 1)
 
 -- one block too many
 abbrev pub room_for_block : Place → Scope → Verdict
-room_for_block place scope = within_limit place kind.Nesting 24 (scope.blocks + 1)
+room_for_block place scope = within_limit place kind.Nesting BLOCKS (scope.blocks + 1)
 
 -- a callee that needs too many locals or blocks beside those in scope
 abbrev pub room_for_call : Place → Peak → Scope → Verdict
 room_for_call place callee scope = do
-  within_limit place kind.Locals 48 (length scope.locals + callee.locals)
-  within_limit place kind.Nesting 24 (scope.blocks + callee.blocks)
+  within_limit place kind.Locals LOCALS (length scope.locals + callee.locals)
+  within_limit place kind.Nesting BLOCKS (scope.blocks + callee.blocks)

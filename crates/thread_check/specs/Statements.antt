@@ -17,6 +17,7 @@ use Rattle.thread_check.specs.Expressions.{expression, expressions}
 use Rattle.thread_check.specs.Calls.{takers, call_rule}
 use Rattle.thread_check.specs.Blocks.{Rule, allowed, new_local, if_some, block_of, loop_of}
 use Rattle.thread_check.specs.Transactions.{tblock_rule}
+use Rattle.thread_tree.specs.declared.limits.TheConstants.{START_VALUES, LOOPS}
 
 -- a local that takes a result, if there is one
 unfoldable pub taker : Names → Scope → Option At → Verdict
@@ -52,8 +53,8 @@ statement_layer names block (stmt.If e then_block else_block) scope =
 statement_layer names block (stmt.While e body) scope = expression names scope e >> loop_of block body scope
 statement_layer names block (stmt.Ploop place body) scope =
     allowed place (not names.in_function)
-    >> within_limit place kind.Loops 64 (scope.loops + 1)
-    >> within_limit place kind.Scope 16 (length scope.locals)
+    >> within_limit place kind.Loops LOOPS (scope.loops + 1)
+    >> within_limit place kind.Scope START_VALUES (length scope.locals)
     >> (block body (ploop scope) >>= λ inner. Ok (closed scope inner))
 statement_layer names block (stmt.Break place) scope = allowed place scope.in_loop >> Ok scope
 statement_layer names block (stmt.Return place None) scope = Ok scope

@@ -5,7 +5,7 @@ use crate::fault::{CheckFault, Kind};
 use crate::names::Names;
 use crate::scope::Scope;
 use crate::uses::within_limit;
-use thread_tree::{At, Place};
+use thread_tree::{At, LOCALS, Place};
 
 /// A word that may stand only where this holds.
 #[tactic(auto, unfolding(crate::specs::Blocks::allowed))]
@@ -27,6 +27,6 @@ impl<'a> Names<'a> {
         ensures ok { OnOk result (length scope.now.locals < 48) }
     {
         self.fresh(scope, at)?;
-        within_limit(at.place, Kind::Locals, 48, scope.locals() + 1)
+        within_limit(at.place, Kind::Locals, LOCALS as u32, scope.locals() + 1)
     }
 }

@@ -10,7 +10,7 @@ use crate::names::{Names, sort_of_declaration};
 use crate::scope::Scope;
 use crate::sort::Sort;
 use crate::uses::{in_range, same_count, same_sort, within_limit};
-use thread_tree::{At, Block, Decl, List, Num};
+use thread_tree::{At, Block, DECLARED, Decl, ITEMS, LOOPS, List, Num, ROWS, TARGETS};
 
 /// Whether a declaration is of this sort.
 fn is_of_sort(sort: Sort, decl: &Decl) -> bool
@@ -69,7 +69,7 @@ impl<'a> Names<'a> {
     /// How many declarations in scope are of this sort.
     #[tactic(auto, using(crate::proofs::FewLaws::count_of_none, crate::proofs::FewLaws::count_of_take, crate::proofs::FewLaws::count_of_take_le))]
     fn count(&self, sort: Sort) -> u32
-        requires { count_of sort self.now.declarations ≤ 64 }
+        requires { count_of sort self.now.declarations ≤ DECLARED }
         ensures { result ≡ count_of sort self.now.declarations }
     {
         let mut count = 0;
@@ -84,7 +84,7 @@ impl<'a> Names<'a> {
     /// A name that is declared for the whole program.
     #[tactic(auto, unfolding(crate::specs::Declarations::declared))]
     fn declared(&self, sort: Sort, kind: Kind, limit: u32, at: At) -> Result<(), CheckFault>
-        requires { count_of sort self.now.declarations ≤ 64 }
+        requires { count_of sort self.now.declarations ≤ DECLARED }
         ensures { result ≡ declared self.now sort kind limit at }
     {
         self.fresh(&Scope::before(0), at)?;
@@ -155,12 +155,12 @@ impl<'a> Names<'a> {
         channel: &Option<Num>,
         scope: Scope,
     ) -> Result<Scope, CheckFault>
-        requires few { count_of sort.Queue self.now.declarations ≤ 64 }
+        requires few { count_of sort.Queue self.now.declarations ≤ DECLARED }
         requires start { scope ≡ no_scope scope.loops }
         ensures { result ≡ declaration_rule self.now scope.loops (decl.Queue name capacity channel.now) }
     {
-        self.declared(Sort::Queue, Kind::Queues, 16, name)?;
-        in_range(capacity, 1, 48)?;
+        self.declared(Sort::Queue, Kind::Queues, TARGETS as u32, name)?;
+        in_range(capacity, 1, ITEMS)?;
         self.channel(channel)?;
         Ok(scope)
     }
@@ -174,11 +174,11 @@ impl<'a> Names<'a> {
         maximum: Num,
         scope: Scope,
     ) -> Result<Scope, CheckFault>
-        requires few { count_of sort.Semaphore self.now.declarations ≤ 64 }
+        requires few { count_of sort.Semaphore self.now.declarations ≤ DECLARED }
         requires start { scope ≡ no_scope scope.loops }
         ensures { result ≡ declaration_rule self.now scope.loops (decl.Semaphore name count maximum) }
     {
-        self.declared(Sort::Semaphore, Kind::Semaphores, 16, name)?;
+        self.declared(Sort::Semaphore, Kind::Semaphores, TARGETS as u32, name)?;
         in_range(count, 0, maximum.value)?;
         in_range(maximum, 1, 65535)?;
         Ok(scope)
@@ -203,7 +203,7 @@ impl<'a> Names<'a> {
     #[tactic(auto, unfolding(crate::specs::Declarations::declaration_rule))]
     pub(crate) fn declare(&self, with: &Names, decl: &Decl, loops: u32) -> Result<Scope, CheckFault>
         requires few { IsFew self.now.declarations }
-        requires loops { loops ≤ 64 }
+        requires loops { loops ≤ LOOPS }
         requires with { with.now ≡ with_declaration decl.now self.now }
         ensures { result ≡ declaration_rule self.now loops decl.now }
     {
@@ -215,7 +215,7 @@ impl<'a> Names<'a> {
                 Ok(scope)
             }
             Decl::Object(name, kind) => {
-                self.declared(Sort::Object, Kind::Objects, 64, *name)?;
+                self.declared(Sort::Object, Kind::Objects, DECLARED, *name)?;
                 with.used(&scope, Sort::Kind, *kind)?;
                 Ok(scope)
             }
@@ -224,7 +224,7 @@ impl<'a> Names<'a> {
                 self.semaphore(*name, *count, *maximum, scope)
             }
             Decl::Function(name, parameters, body) => {
-                self.declared(Sort::Function, Kind::Functions, 64, *name)?;
+                self.declared(Sort::Function, Kind::Functions, DECLARED, *name)?;
                 let scope = with.parameters(parameters, scope)?;
                 self.of_function().block(body, scope)
             }
@@ -233,7 +233,12 @@ impl<'a> Names<'a> {
                 with.thread_body(parameters, *priority, body, scope)
             }
             Decl::Start(place, name, numbers) => {
-                within_limit(*place, Kind::Starts, 16, self.count(Sort::Start) + 1)?;
+                within_limit(
+                    *place,
+                    Kind::Starts,
+                    ROWS as u32,
+                    self.count(Sort::Start) + 1,
+                )?;
                 self.used(&scope, Sort::Thread, *name)?;
                 same_count(name.place, self.arity(name.name), numbers.len())?;
                 Ok(scope)

@@ -7,7 +7,7 @@ use crate::names::Names;
 use crate::peak::{FunctionPeak, Peak};
 use crate::scope::Scope;
 use std::alloc::{AllocError, Global};
-use thread_tree::{Decl, List};
+use thread_tree::{Decl, LOOPS, List};
 
 /// The peaks of functions after a declaration whose body had this peak.
 #[tactic(auto, unfolding(crate::specs::Declarations::with_function))]
@@ -48,7 +48,7 @@ fn declare_at(
     requires place { slice_get decls.now at ≡ Some decl.now }
     requires within { at < length decls.now }
     requires few { IsFew (take at decls.now) }
-    requires loops { loops ≤ 64 }
+    requires loops { loops ≤ LOOPS }
     ensures { result ≡ declaration_rule (record { declarations = take at decls.now; functions = functions.now.items; in_function = false }) loops decl.now }
 {
     let _count = decls.len();

@@ -3,11 +3,12 @@ ghost use Rattle.thread_check.specs.Scope.{no_scope, is_local, with_local, raise
 
 use crate::peak::Peak;
 use std::marker::Model;
+use thread_tree::{BLOCKS, LOCALS, LOOPS};
 
 /// What is in scope at a point of a body: the locals, the open blocks, and what was counted so far.
 #[derive(Drop)]
 pub(crate) struct Scope {
-    names: [u32; 48],
+    names: [u32; LOCALS],
     count: usize,
     blocks: u32,
     in_loop: bool,
@@ -16,6 +17,7 @@ pub(crate) struct Scope {
 }
 
 impl Model for Scope {
+    ghost use Rattle.thread_tree.specs.declared.limits.TheConstants.{BLOCKS, LOCALS, LOOPS};
     ghost use Rattle.std.specs.Prelude.{◌≤◌, take};
     ghost use Rattle.thread_check.specs.Scope.{Scope as Parts};
 
@@ -23,7 +25,7 @@ impl Model for Scope {
 
     ghost view = { λ s. record { locals = take s.count s.names; blocks = s.blocks; in_loop = s.in_loop; loops = s.loops; peak = s.peak } };
 
-    ghost invariant = { λ s. (s.count ≤ 48) × (s.blocks ≤ 24) × (s.loops ≤ 64) };
+    ghost invariant = { λ s. (s.count ≤ LOCALS) × (s.blocks ≤ BLOCKS) × (s.loops ≤ LOOPS) };
 }
 
 impl Peak {
@@ -41,11 +43,11 @@ impl Peak {
 impl Scope {
     /// The scope before the parameters of a body, after so many persistent loops.
     pub(crate) fn before(loops: u32) -> Scope
-        requires { loops ≤ 64 }
+        requires { loops ≤ LOOPS }
         ensures { result ≡ no_scope loops }
     {
         Scope {
-            names: [0; 48],
+            names: [0; LOCALS],
             count: 0,
             blocks: 0,
             in_loop: false,
@@ -67,7 +69,7 @@ impl Scope {
     /// The number of locals in scope.
     pub(crate) fn locals(&self) -> u32
         ensures count { result ≡ length self.now.locals }
-        ensures most { result ≤ 48 }
+        ensures most { result ≤ LOCALS }
     {
         self.count as u32
     }
@@ -75,7 +77,7 @@ impl Scope {
     /// The number of open blocks.
     pub(crate) fn blocks(&self) -> u32
         ensures count { result ≡ self.now.blocks }
-        ensures most { result ≤ 24 }
+        ensures most { result ≤ BLOCKS }
     {
         self.blocks
     }
@@ -90,7 +92,7 @@ impl Scope {
     /// The number of persistent loops so far.
     pub(crate) fn loops(&self) -> u32
         ensures count { result ≡ self.now.loops }
-        ensures most { result ≤ 64 }
+        ensures most { result ≤ LOOPS }
     {
         self.loops
     }
@@ -146,7 +148,7 @@ impl Scope {
 
     /// The scope in a further persistent loop.
     pub(crate) fn in_ploop(mut self) -> Scope
-        requires { self.loops < 64 }
+        requires { self.loops < LOOPS }
         ensures { result ≡ ploop self }
     {
         self.in_loop = true;
@@ -156,7 +158,7 @@ impl Scope {
 
     /// The scope at the first statement of a block.
     pub(crate) fn opened(&self) -> Scope
-        requires { self.now.blocks < 24 }
+        requires { self.now.blocks < BLOCKS }
         ensures { result ≡ opened self.now }
     {
         let mut inner = self.copy();
@@ -184,8 +186,8 @@ impl Scope {
 
     /// The scope after a call of a function with this peak.
     pub(crate) fn after_call(mut self, callee: Peak) -> Scope
-        requires locals { length self.locals + callee.locals ≤ 48 }
-        requires blocks { self.blocks + callee.blocks ≤ 24 }
+        requires locals { length self.locals + callee.locals ≤ LOCALS }
+        requires blocks { self.blocks + callee.blocks ≤ BLOCKS }
         ensures { result ≡ after_call callee self }
     {
         let locals = self.count as u8 + callee.locals;

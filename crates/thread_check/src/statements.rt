@@ -13,19 +13,22 @@ use crate::scope::Scope;
 use crate::sort::Sort;
 use crate::transactions::Transaction;
 use crate::uses::{same_count, within_limit};
-use thread_tree::{At, Block, List, Place, Stmt, TBlock, kind_of_call, result_count};
+use thread_tree::{
+    At, BLOCKS, Block, LOCALS, LOOPS, List, Place, START_VALUES, Stmt, TBlock, kind_of_call,
+    result_count,
+};
 
 impl Scope {
     /// Room for a call of a function with this peak.
     fn room_for_call(&self, place: Place, callee: Peak) -> Result<(), CheckFault>
         ensures verdict { result ≡ room_for_call place callee self.now }
-        ensures locals { OnOk result (length self.now.locals + callee.locals ≤ 48) }
-        ensures blocks { OnOk result (self.now.blocks + callee.blocks ≤ 24) }
+        ensures locals { OnOk result (length self.now.locals + callee.locals ≤ LOCALS) }
+        ensures blocks { OnOk result (self.now.blocks + callee.blocks ≤ BLOCKS) }
     {
         let locals = self.locals() + callee.locals as u32;
         let blocks = self.blocks() + callee.blocks as u32;
-        within_limit(place, Kind::Locals, 48, locals)?;
-        within_limit(place, Kind::Nesting, 24, blocks)
+        within_limit(place, Kind::Locals, LOCALS as u32, locals)?;
+        within_limit(place, Kind::Nesting, BLOCKS as u32, blocks)
     }
 }
 
@@ -45,8 +48,8 @@ impl<'a> Names<'a> {
     #[tactic(auto, unfolding(crate::specs::Statements::callee_rule))]
     fn callee(&self, scope: &Scope, callee: At, count: usize) -> Result<(), CheckFault>
         ensures verdict { result ≡ callee_rule self.now scope.now callee count }
-        ensures locals { OnOk result (length scope.now.locals + (peak_of self.now callee.name).locals ≤ 48) }
-        ensures blocks { OnOk result (scope.now.blocks + (peak_of self.now callee.name).blocks ≤ 24) }
+        ensures locals { OnOk result (length scope.now.locals + (peak_of self.now callee.name).locals ≤ LOCALS) }
+        ensures blocks { OnOk result (scope.now.blocks + (peak_of self.now callee.name).blocks ≤ BLOCKS) }
     {
         self.used(scope, Sort::Function, callee)?;
         same_count(callee.place, self.arity(callee.name), count)?;
@@ -101,8 +104,8 @@ impl<'a> Names<'a> {
             }
             Stmt::Ploop(place, body) => {
                 allowed(*place, !self.in_function())?;
-                within_limit(*place, Kind::Loops, 64, scope.loops() + 1)?;
-                within_limit(*place, Kind::Scope, 16, scope.locals())?;
+                within_limit(*place, Kind::Loops, LOOPS, scope.loops() + 1)?;
+                within_limit(*place, Kind::Scope, START_VALUES as u32, scope.locals())?;
                 let inner = self.block(body, scope.copy().in_ploop())?;
                 Ok(scope.closed(&inner))
             }
@@ -137,7 +140,12 @@ impl<'a> Names<'a> {
     pub(crate) fn block(&self, block: &Block, scope: Scope) -> Result<Scope, CheckFault>
         ensures { result ≡ block_rule self.now block.now scope }
     {
-        within_limit(block.place, Kind::Nesting, 24, scope.blocks() + 1)?;
+        within_limit(
+            block.place,
+            Kind::Nesting,
+            BLOCKS as u32,
+            scope.blocks() + 1,
+        )?;
         let inner = self.statements(&block.stmts, scope.opened())?;
         Ok(scope.closed(&inner))
     }

@@ -10,7 +10,7 @@ use crate::scope::Scope;
 use crate::sort::Sort;
 use crate::uses::{same_count, within_limit};
 use std::marker::Model;
-use thread_tree::{At, List, TBlock, TStmt};
+use thread_tree::{At, BLOCKS, List, TBlock, TStmt};
 
 /// An `atomic` block whose statements are checked.
 #[derive(Drop)]
@@ -124,7 +124,12 @@ impl<'a> Transaction<'a> {
     pub(crate) fn block(&self, block: &TBlock, scope: Scope) -> Result<Scope, CheckFault>
         ensures { result ≡ tblock_rule self.now block.now scope }
     {
-        within_limit(block.place, Kind::Nesting, 24, scope.blocks() + 1)?;
+        within_limit(
+            block.place,
+            Kind::Nesting,
+            BLOCKS as u32,
+            scope.blocks() + 1,
+        )?;
         let inner = self.statements(&block.stmts, scope.opened())?;
         Ok(scope.closed(&inner))
     }

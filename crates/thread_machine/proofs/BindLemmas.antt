@@ -13,6 +13,7 @@ use Rattle.thread_tree.specs.declared.block.Stmt.TheOpen as stmt
 use Rattle.thread_tree.specs.Program.{Program, Body, Template}
 use Rattle.thread_tree.specs.Value.{value_of}
 use Rattle.thread_tree.specs.Kinds.{Action, action_layer, action_of, result_count}
+use Rattle.thread_tree.specs.Actions.{declared_by, names_in}
 use Rattle.thread_tree.specs.LocalState.{Thing, Frame, after_first, bind, birth, locals_of, things, named, next_action, next_names, next_statement, with_value, with_values}
 use Rattle.thread_tree.specs.LocalState.Thing.{Do}
 use Rattle.thread_machine.specs.declared.context.Ctx.{Ctx}
@@ -24,6 +25,8 @@ use Rattle.thread_machine.specs.Context.{Level, Waiting, IsCounted, again_of, fr
 use Rattle.thread_machine.specs.Reached.{IsContext}
 use Rattle.thread_machine.specs.Reached.Reached.{Born, Bound}
 use Rattle.thread_machine.specs.Operands.{operands_by, taken_by}
+use Rattle.thread_machine.proofs.KeepLemmas.{passed_on, scoped_begin}
+use Rattle.thread_machine.proofs.NameLemmas.{names_bound, names_named}
 use Rattle.thread_machine.proofs.ListLemmas.{drop_at_item, drop_at_none}
 use Rattle.thread_machine.proofs.LevelLemmas.{level_along-snoc, level_along-none, last_is, last_none}
 use Rattle.thread_machine.proofs.ScopeLemmas.{named_more, named_cut}
@@ -166,15 +169,24 @@ bound_local p ctx next s a names results here is within taken given =
     ∙ ap (λ ns. state_at l outer (with_values own ns results) (rest_of p ctx)) same
     ∙ ap (λ todo. state_at l outer (with_values own (next_names p (local_of p ctx)) results) todo) (sym (after_at p ctx s here))
 
+action_declares : (p : Program) (layer : Stmt-F Stmt Block) (a : Action) → action_layer p layer ≡ Some a → declared_by layer ≡ []
+action_declares p (stmt.Let at e) a is = cc
+action_declares p _ a is = refl
+
 -- it is one of the program
-pub bound_context : (p : Program) (ctx : Ctx) (next : ArrayVec Local) (own : List Local) (values : List ℕ) (a : Action) → IsContext p ctx → next_action p (local_of p ctx) ≡ Some a → length values ≡ result_count a.kind a.given → next.items ≡ take ctx.base ctx.slots.items ++ own → local_of p (record ctx { slots = next; at = ctx.at + 1; again = false }) ≡ bind p (local_of p ctx) values → IsContext p (record ctx { slots = next; at = ctx.at + 1; again = false })
-bound_context p ctx next own values a context is same given bound = record {
-  reached = rw bound (Bound p (local_of p ctx) a values context.reached is same);
-  counted = record {
-    within = omega (arith, ap length given, length-append (take ctx.base ctx.slots.items) own, length-take-le ctx.base ctx.slots.items context.counted.within);
-    waiting = context.counted.waiting;
-  };
-}
+pub bound_context : (p : Program) (ctx : Ctx) (next : ArrayVec Local) (s : Stmt) (names values : List ℕ) (a : Action) → IsContext p ctx → statement_of p ctx ≡ Some s → next_action p (local_of p ctx) ≡ Some a → length values ≡ result_count a.kind a.given → next.items ≡ take ctx.base ctx.slots.items ++ with_values (drop ctx.base ctx.slots.items) names values → local_of p (record ctx { slots = next; at = ctx.at + 1; again = false }) ≡ bind p (local_of p ctx) values → IsContext p (record ctx { slots = next; at = ctx.at + 1; again = false })
+bound_context p ctx next s names values a context here is same given bound =
+    let own = with_values (drop ctx.base ctx.slots.items) names values in
+    record {
+      reached = rw bound (Bound p (local_of p ctx) a values context.reached is same);
+      counted = record {
+        within = omega (arith, ap length given, length-append (take ctx.base ctx.slots.items) own, length-take-le ctx.base ctx.slots.items context.counted.within);
+        waiting = context.counted.waiting;
+      };
+      scoped =
+          passed_on p ctx.body ctx.cursors.items ctx.slots.items next.items ctx.base ctx.at s here (action_declares p (out-Stmt s) a (action_at p ctx s a here is))
+          (ap names_in given ∙ names_bound ctx.base ctx.slots.items names values) context.scoped;
+    }
 
 -- the value of the operand that was found
 pub operand_value : (p : Program) (ctx : Ctx) (s : Stmt) (which r : ℕ) (found : Option Expr) (o : Option Action) → statement_of p ctx ≡ Some s → next_action p (local_of p ctx) ≡ o → found ≡ slice_get (operands_by (out-Stmt s)) which → IfSome found (λ e. r ≡ value_of (local_of p ctx).top.locals e) → IfSome o (λ a. IfSome (slice_get a.operands which) (λ e. r ≡ value_of (local_of p ctx).top.locals e))
@@ -215,10 +227,15 @@ some_is_none x is = cc
 
 -- a birth is in the program's thread
 pub fresh_context : (p : Program) (template number : ℕ) (t : Template) (arguments : List ℕ) (slots : ArrayVec Local) (cursors : ArrayVec Cursor) (found : Option Body) → slice_get p.bodies number ≡ template_body p template → slice_get p.templates template ≡ Some t → length arguments ≡ length t.parameters → found ≡ template_body p template → cursors.items ≡ [] → slots.items ≡ named (parameters_of found) arguments → IsContext p (record { slots = slots; base = 0; body = number; cursors = cursors; at = 0; again = false })
-fresh_context p template number t arguments slots cursors found at_body is many same none declared = record {
-  reached = rw (fresh_local p template number t arguments slots cursors found at_body is same none declared) (Born p template t arguments is many);
-  counted = record { within = omega arith; waiting = rw (none, level_along-none p number) refl };
-}
+fresh_context p template number t arguments slots cursors found at_body is many same none declared =
+    let parameters : parameters_of found ≡ t.parameters = ap parameters_of (same ∙ ap (λ o. option_map thread_body o) is) in
+    record {
+      reached = rw (fresh_local p template number t arguments slots cursors found at_body is same none declared) (Born p template t arguments is many);
+      counted = record { within = omega arith; waiting = rw (none, level_along-none p number) refl };
+      scoped =
+          scoped_begin p number cursors.items slots.items none
+          (ap names_in declared ∙ names_named (parameters_of found) arguments (omega (arith, many, ap length parameters)) ∙ ap parameters_of (same ∙ sym at_body));
+    }
 
 pub fresh_born : (p : Program) (template number : ℕ) (t : Template) (arguments : List ℕ) (slots : ArrayVec Local) (cursors : ArrayVec Cursor) (found : Option Body) → slice_get p.bodies number ≡ template_body p template → slice_get p.templates template ≡ Some t → found ≡ template_body p template → cursors.items ≡ [] → slots.items ≡ named (parameters_of found) arguments → IfSome (slice_get p.templates template) (λ u. local_of p (record { slots = slots; base = 0; body = number; cursors = cursors; at = 0; again = false }) ≡ birth u arguments)
 fresh_born p template number t arguments slots cursors found at_body is same none declared =

@@ -10,11 +10,11 @@ use Rattle.thread_tree.specs.declared.tree.Decl.TheVariants as decl
 use Rattle.thread_tree.specs.declared.tree.Tree.{Tree}
 use Rattle.thread_tree.specs.Actions.{actions}
 use Rattle.thread_tree.specs.Program.{Body, program_of, function_of, names_of}
-use Rattle.thread_machine.specs.ActionLists.{actions_layer, actions_in, actions_in_turn, actions_of_declaration, actions_of_declarations}
+use Rattle.thread_check.specs.ActionLists.{actions_layer, actions_in, actions_in_turn, actions_of_declaration, actions_of_declarations}
 use Rattle.thread_machine.specs.Context.{block_in, body_of}
 use Rattle.thread_machine.specs.Parts.{IsPart, actions_if_some}
 use Rattle.thread_machine.specs.Seen.{body_in, function_in}
-use Rattle.thread_machine.proofs.ActionLaws.{actions_of_out, actions_in_out, actions_show}
+use Rattle.thread_check.proofs.Callers.{actions_of_out, actions_in_out, actions_show}
 use Rattle.thread_machine.proofs.BodyLemmas.{function_among, function_among-is, function_here, function_at_end, body_among, body_among-is, body_here, body_at_end}
 use Rattle.thread_machine.proofs.PartLemmas.{part_at, part_of_declaration, part_none, length_more, length_more_declared}
 

@@ -1,8 +1,7 @@
 -- A block is entered on the way to a persistent loop.
-use Rattle.std.proofs.Common.{◌≡◌, ◌≢◌, ℕ, zero, suc, ◌+◌, ◌-◌, ◌<◌, ◌≤◌, ◌^◌, List, [], ◌∷◌, ◌++◌, length, map, take, drop, Bool, true, false, Option, Some, None, refl, ap, sym, subst, ◌∙◌, arith}
-use Rattle.std.specs.Prelude.{slice_get, filter, option_and_then, IsSomeAnd, if◌then◌else◌}
+use Rattle.std.proofs.Common.{◌≡◌, ◌≢◌, ℕ, zero, suc, ◌+◌, ◌-◌, ◌<◌, ◌≤◌, ◌^◌, List, [], ◌∷◌, ◌++◌, length, drop, Bool, true, false, Option, Some, None, refl, ap, sym, subst, ◌∙◌, arith}
+use Rattle.std.specs.Prelude.{slice_get, filter, option_and_then, IsSomeAnd}
 use Rattle.std.proofs.lemmas.List.{drop_all, length-map}
-use Rattle.arrayvec.specs.ArrayVec.{ArrayVec}
 use Rattle.thread_tree.specs.declared.place.Place.{Place}
 use Rattle.thread_tree.specs.declared.expr.Expr.{Expr}
 use Rattle.thread_tree.specs.declared.block.Block.{Block, out-Block}
@@ -11,19 +10,20 @@ use Rattle.thread_tree.specs.declared.block.Stmt.TheOpen.{Stmt-F}
 use Rattle.thread_tree.specs.declared.block.Stmt.TheOpen as stmt
 use Rattle.thread_tree.specs.Need.{Need, Weight, callees, need_of, weight_of}
 use Rattle.thread_tree.specs.Program.{Program}
-use Rattle.thread_tree.specs.LocalState.{Thing, LocalState, entered}
-use Rattle.thread_tree.specs.LocalState.Thing.{Do, End, Test, Turn}
+use Rattle.thread_tree.specs.LocalState.{Thing, entered}
+use Rattle.thread_tree.specs.LocalState.Thing.{Do, End, Turn}
 use Rattle.thread_tree.specs.Actions.{Spot, declared_by, is_loop, spots_in}
 use Rattle.thread_machine.specs.declared.context.Ctx.{Ctx}
-use Rattle.thread_machine.specs.declared.context.Cursor.{Cursor}
 use Rattle.thread_machine.specs.declared.context.Way.{Way}
 use Rattle.thread_machine.specs.declared.context.Way.TheVariants as way
-use Rattle.thread_machine.specs.Context.{Level, again_of, after_of, block_inside, comes_again, level_along, level_by, level_of, todo_after, todo_at, local_of, rest_of, statement_of, statements}
+use Rattle.thread_machine.specs.Context.{Level, after_of, block_inside, comes_again, first_block, other_block, level_along, level_by, level_of, todo_after, todo_at, local_of, rest_of, statement_of, statements}
 use Rattle.thread_machine.specs.Loops.{loops_from, loops_in, loops_of}
 use Rattle.thread_machine.specs.Seeking.{IsAtLoop, IsInner, IsOnWay, IsOwn, after_block, names_in, sought, spots_from, spots_if_there, spots_of}
+use Rattle.thread_machine.specs.Scope.{IsScoped}
 use Rattle.thread_machine.specs.Within.{AreWithin, IsWithin, blocks_in, ends, locals_in}
-use Rattle.thread_machine.proofs.ActionLaws.{slice_get_behind}
+use Rattle.thread_check.proofs.Callers.{slice_get_behind}
 use Rattle.thread_machine.proofs.LevelLemmas.{kept_result, kept_waiting}
+use Rattle.thread_machine.proofs.KeepLemmas.{entered_by}
 use Rattle.thread_machine.proofs.ListLemmas.{drop_at_item, drop_at_none}
 use Rattle.thread_machine.proofs.StateLemmas.{level_entered, todo_after_again, todo_after_once}
 use Rattle.thread_machine.proofs.WithinLemmas.{entered_within, fewer_within}
@@ -179,7 +179,8 @@ after_within p before blocks count s (stmt.Return place value) rest is within = 
 after_within p before blocks count s (stmt.Atomic place to block) rest is within = fewer_after (callees p) before blocks count s rest within
 after_within p before blocks count s (stmt.Call place call to) rest is within = fewer_after (callees p) before blocks count s rest within
 
-after_is : (l : Level) (at : ℕ) (s : Stmt) (b : Bool) → slice_get l.stmts at ≡ Some s → comes_again (out-Stmt s) ≡ b → todo_after l at ≡ after_block (out-Stmt s) s (todo_at l false (at + 1))
+-- what is to be done behind a block, by its statement
+pub after_is : (l : Level) (at : ℕ) (s : Stmt) (b : Bool) → slice_get l.stmts at ≡ Some s → comes_again (out-Stmt s) ≡ b → todo_after l at ≡ after_block (out-Stmt s) s (todo_at l false (at + 1))
 after_is l at s false here is = todo_after_once l at s here is ∙ rw is refl
 after_is l at s true here is = todo_after_again l at s here is ∙ rw is refl
 
@@ -207,6 +208,20 @@ own_spots p ctx s left here lt =
     ap (λ xs. slice_get (filter is_loop (spots_from xs scope l.behind)) left) (drop_at_item l.stmts ctx.at s here)
     ∙ ap (λ xs. slice_get xs left) (filter_append own more)
     ∙ slice_get_front (filter is_loop own) (filter is_loop more) left (omega (arith, lt, loops_count_of s scope (rest_of p ctx)))
+
+first_declares : (layer : Stmt-F Stmt Block) (b : Block) → first_block layer ≡ Some b → declared_by layer ≡ []
+first_declares (stmt.Let at e) b is = cc
+first_declares _ b is = refl
+
+other_declares : (layer : Stmt-F Stmt Block) (b : Block) → other_block layer ≡ Some b → declared_by layer ≡ []
+other_declares (stmt.Let at e) b is = cc
+other_declares _ b is = refl
+
+-- a statement that has a block declares nothing
+block_declares : (p : Program) (w : Way) (s : Stmt) (b : Block) → w ≢ way.Call → block_inside p w s ≡ Some b → declared_by (out-Stmt s) ≡ []
+block_declares p way.First s b enters is = first_declares (out-Stmt s) b is
+block_declares p way.Else s b enters is = other_declares (out-Stmt s) b is
+block_declares p way.Call s b enters is = absurd (enters refl)
 
 -- a block was entered
 pub entered_way : (p : Program) (ctx next : Ctx) (s : Stmt) (w : Way) (left n : ℕ) (inner : IsInner p s left w n) → IsOnWay p ctx → statement_of p ctx ≡ Some s → left < loops_of (out-Stmt s) → next.cursors.items ≡ ctx.cursors.items ++ record { at = ctx.at; way = w; keep = length ctx.slots.items - ctx.base } ∷ [] → next ≡ record ctx { cursors = next.cursors; at = 0; again = false } → local_of p next ≡ entered (local_of p ctx) inner.block (after_of p ctx) → IsOnWay p next × (sought p next n ≡ sought p ctx left)
@@ -240,6 +255,9 @@ entered_way p ctx next s w left n inner way here lt cursors kept moved =
         waiting = ap (λ (x : Level). x.waiting) level ∙ kept_waiting p l ctx.at keep w inner.enters ∙ way.waiting;
         result = ap (λ (x : Level). x.result) level ∙ kept_result p l ctx.at keep w inner.enters ∙ way.result;
         within = subst (IsWithin p) (sym moved) (entered_within p t inner.block (after_of p ctx) (omega (arith, head.0, inner.locals)) (omega (arith, head.1, inner.blocks, ends_same)) follows way.within.each.1);
+        scoped =
+            subst (IsScoped p) (sym kept)
+            (entered_by p ctx.body ctx.cursors.items next.cursors.items ctx.slots.items ctx.base ctx.at w s inner.enters here (block_declares p w s inner.block inner.enters inner.is) cursors way.scoped);
       },
       rw (level, at, slots, stmts, behind)
           (ap (λ xs. slice_get (filter is_loop xs) n) (sym (spots_out inner.block scope (End (length scope) ∷ after_block (out-Stmt s) s rest)))

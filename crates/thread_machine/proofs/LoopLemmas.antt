@@ -1,10 +1,10 @@
 -- The body that has a persistent loop, and the context at it.
-use Rattle.std.proofs.Common.{◌≡◌, ◌≢◌, ℕ, zero, suc, ◌+◌, ◌-◌, ◌<◌, ◌≤◌, ◌^◌, List, [], ◌∷◌, ◌++◌, length, map, take, drop, Bool, true, false, Option, Some, None, refl, ap, sym, subst, ◌∙◌, arith}
-use Rattle.std.specs.Prelude.{slice_get, filter, flat_map, All, IfSome, IsSomeAnd, option_map}
-use Rattle.std.proofs.lemmas.List.{drop_all, length-map, length-append, append-nil}
+use Rattle.std.proofs.Common.{◌≡◌, ℕ, zero, suc, ◌+◌, ◌-◌, ◌<◌, ◌≤◌, ◌^◌, List, [], ◌∷◌, ◌++◌, length, drop, false, Option, Some, None, refl, ap, sym, ◌∙◌, arith}
+use Rattle.std.specs.Prelude.{slice_get, filter, flat_map, IfSome}
+use Rattle.std.proofs.lemmas.List.{drop_all, length-append, append-nil}
 use Rattle.std.proofs.lemmas.List.Concat.{flat_map-cons}
-use Rattle.thread_tree.specs.declared.block.Block.{Block, out-Block}
-use Rattle.thread_tree.specs.declared.block.Stmt.{Stmt, out-Stmt}
+use Rattle.thread_tree.specs.declared.block.Block.{Block}
+use Rattle.thread_tree.specs.declared.block.Stmt.{out-Stmt}
 use Rattle.thread_tree.specs.declared.tree.Decl.{Decl}
 use Rattle.thread_tree.specs.declared.tree.Decl.TheVariants as decl
 use Rattle.thread_tree.specs.declared.tree.Tree.{Tree}
@@ -16,18 +16,15 @@ use Rattle.thread_machine.specs.Loops.{loops_in}
 use Rattle.thread_tree.specs.Need.{IsSmall, need_of_body, callees}
 use Rattle.thread_tree.specs.LocalState.{LocalState, loop_block, named, entered}
 use Rattle.thread_tree.specs.LocalState.Thing.{Turn}
-use Rattle.thread_tree.specs.declared.block.Stmt.TheOpen as stmt
 use Rattle.thread_tree.specs.Actions.{at_turn, inside}
 use Rattle.thread_machine.specs.declared.context.Ctx.{Ctx}
-use Rattle.thread_machine.specs.declared.context.Way.TheVariants as way
-use Rattle.thread_machine.specs.Context.{Level, after_of, block_inside, level_along, level_of, local_of, parameters_of, rest_of, statement_of}
-use Rattle.thread_machine.specs.Reached.{IsContext}
-use Rattle.thread_machine.specs.Reached.Reached.{Entered}
-use Rattle.thread_machine.specs.Seeking.{IsAtLoop, IsBegun, IsInBody, IsOnWay, loops_behind, names_in, sought, spots_from}
-use Rattle.thread_machine.proofs.SkipLemmas.{own_all, way_counted}
+use Rattle.thread_machine.specs.Context.{after_of, level_along, level_of, local_of, parameters_of}
+use Rattle.thread_machine.specs.Scope.{IsScopedBy}
+use Rattle.thread_machine.specs.Seeking.{IsAtLoop, IsBegun, IsInBody, loops_behind, names_in, sought}
 use Rattle.thread_machine.proofs.StateLemmas.{todo_after_again}
 use Rattle.thread_machine.proofs.WithinLemmas.{All-slice_get, body_within}
-use Rattle.thread_machine.specs.Context.{IsCounted}
+use Rattle.thread_machine.proofs.KeepLemmas.{renewed, scoped_begin}
+use Rattle.thread_machine.proofs.NameLemmas.{names_named}
 use Rattle.thread_machine.proofs.ListLemmas.{drop_at_item, drop_at_none}
 use Rattle.thread_machine.proofs.SeekLemmas.{filter_append, loops_among, loops_count, loops_out, spots_out}
 use Rattle.thread_machine.proofs.InnerLemmas.{front_spots, behind_spots}
@@ -104,11 +101,6 @@ place_end tree n number left spot x y past so_far found =
 
 pub ruleset place_laws = (place_begins, place_here, place_passed, place_none, place_end)
 
-names_named : (names values : List ℕ) → length names ≤ length values → names_in (named names values) ≡ names
-names_named [] values le = refl
-names_named (name ∷ names) [] le = absurd (omega (arith, le))
-names_named (name ∷ names) (value ∷ values) le = ap (λ ns. name ∷ ns) (names_named names values (omega (arith, le)))
-
 length_of_named : (names values : List ℕ) → length names ≤ length values → length (named names values) ≡ length names
 length_of_named [] values le = refl
 length_of_named (name ∷ names) [] le = absurd (omega (arith, le))
@@ -145,6 +137,7 @@ begun p ctx body found values sound is same slots many none at again base =
         within = rw (none, at, again, base, is) (record {
           each = (rw append-nil (body_within (callees p) 0 0 (length ctx.slots.items) body.block (omega (arith, small.locals, count)) (omega (arith, small.blocks))), tt);
         });
+        scoped = rw (base, at) (scoped_begin p ctx.body ctx.cursors.items ctx.slots.items none (names ∙ ap parameters_of (sym is)));
       };
       loops = λ left. rw (none, at, is, names) (ap (λ xs. slice_get (filter is_loop xs) left) (sym (spots_out body.block body.parameters [])));
     }
@@ -168,6 +161,13 @@ inside_is p ctx next last spot values at_loop kept slots moved =
     let again : after_of p next ≡ Turn spot.statement ∷ spot.rest =
     rw (level, at) (todo_after_again l ctx.at spot.statement at_loop.here (rw at_loop.loop refl) ∙ rw at_loop.loop (ap (λ xs. Turn spot.statement ∷ xs) at_loop.rest)) in
     moved ∙ rw (again, base, own, level, at_loop.way.waiting, at_loop.way.result) refl ∙ sym (inside_loop spot values at_loop.block (ap loop_block at_loop.loop))
+
+-- the locals in scope at a loop, with these values
+pub at_loop_scoped : (p : Program) (ctx : Ctx) (next : List Local) (spot : Spot) (values : List ℕ) → IsAtLoop p spot ctx → next ≡ named (names_in ctx.slots.items) values → length values ≡ length spot.scope → IsScopedBy p ctx.body ctx.cursors.items next ctx.base ctx.at
+at_loop_scoped p ctx next spot values at_loop slots many =
+    let names = names_in ctx.slots.items in
+    renewed p ctx.body ctx.cursors.items ctx.slots.items next ctx.base ctx.at
+    (ap names_in slots ∙ names_named names values (omega (arith, many, ap length at_loop.scope))) at_loop.way.scoped
 
 pub behind_nothing : {first rest slots : List Local} → slots ≡ first ++ rest → first ≡ [] → slots ≡ rest
 behind_nothing {first} {rest} {slots} is none = is ∙ ap (λ xs. xs ++ rest) none

@@ -1,18 +1,18 @@
 -- The spots of a block are those of its statements, and how many of them are persistent loops.
-use Rattle.std.proofs.Common.{◌≡◌, ℕ, zero, suc, ◌+◌, ◌-◌, ◌<◌, ◌≤◌, List, [], ◌∷◌, ◌++◌, length, map, take, Bool, true, false, Option, Some, None, refl, ap, sym, subst, ◌∙◌, arith}
+use Rattle.std.proofs.Common.{◌≡◌, ℕ, zero, suc, ◌+◌, ◌≤◌, List, [], ◌∷◌, ◌++◌, length, map, take, Bool, true, false, Some, None, refl, ap, sym, subst, ◌∙◌, arith}
 use Rattle.std.specs.Prelude.{slice_get, filter, if◌then◌else◌}
 use Rattle.std.proofs.lemmas.List.{length-append, append-nil, take_all}
-use Rattle.thread_tree.specs.declared.block.Block.{Block, Block-F, para-roll-Block, roll-Block, map-Block, out-Block, out-roll-Block, roll-out-Block, fold-Block, fold_out-Block}
+use Rattle.thread_tree.specs.declared.block.Block.{Block, Block-F, para-roll-Block, roll-Block, map-Block, out-Block, out-roll-Block, roll-out-Block, fold_out-Block}
 use Rattle.thread_tree.specs.declared.block.Stmt.{Stmt, Stmt-F, para-roll-Stmt, para-Stmt, roll-Stmt, map-Stmt, out-Stmt, out-roll-Stmt, roll-out-Stmt, fold-Stmt, fold_out-Stmt}
 use Rattle.thread_tree.specs.declared.block.Stmt.TheOpen as stmt
 use Rattle.thread_tree.specs.LocalState.{Thing, loop_block}
 use Rattle.thread_tree.specs.LocalState.Thing.{Do, End, Test, Turn}
 use Rattle.thread_tree.specs.Actions.{Spot, SpotsOf, SpotsIn, declared_by, is_loop, spots_in, spots_in_layer, spots_in_turn, spots_of_layer}
-use Rattle.thread_machine.specs.Loops.{loops_from, loops_in, loops_in_layer, loops_in_turn, loops_of, loops_of_layer, loops_if_some}
+use Rattle.thread_machine.specs.Loops.{loops_from, loops_in, loops_in_layer, loops_in_turn, loops_of, loops_of_layer}
 use Rattle.std.specs.Option.{is_some}
 use Rattle.thread_machine.specs.Context.{first_block, other_block}
-use Rattle.thread_machine.specs.Seeking.{spots_from, spots_if_there, spots_of}
-use Rattle.thread_machine.proofs.Induction.{each_block}
+use Rattle.thread_machine.specs.Seeking.{spots_from, spots_of}
+use Rattle.thread_check.proofs.Callers.{each_block}
 
 abbrev para_of : Stmt → SpotsOf
 para_of = para-Stmt SpotsOf SpotsIn spots_of_layer spots_in_layer

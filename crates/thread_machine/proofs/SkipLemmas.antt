@@ -1,5 +1,5 @@
 -- A statement is passed by on the way to a persistent loop.
-use Rattle.std.proofs.Common.{◌≡◌, ℕ, zero, suc, ◌+◌, ◌-◌, ◌<◌, ◌≤◌, List, [], ◌∷◌, ◌++◌, length, map, take, drop, Bool, true, false, Option, Some, None, refl, ap, sym, subst, ◌∙◌, arith}
+use Rattle.std.proofs.Common.{◌≡◌, ℕ, ◌+◌, ◌<◌, ◌≤◌, List, [], ◌∷◌, ◌++◌, length, map, drop, false, Some, ap, sym, subst, ◌∙◌, arith}
 use Rattle.std.specs.Prelude.{slice_get, filter}
 use Rattle.std.specs.Option.{option_to_list}
 use Rattle.std.proofs.lemmas.List.{map-append, append-nil, length-append, length-map}
@@ -12,13 +12,15 @@ use Rattle.thread_tree.specs.Need.{Need, Weight, callees, weight_of}
 use Rattle.thread_tree.specs.Program.{Program}
 use Rattle.thread_tree.specs.LocalState.{Thing, LocalState, declared_local, going_on}
 use Rattle.thread_tree.specs.LocalState.Thing.{Do}
-use Rattle.thread_tree.specs.Actions.{Spot, declared_by, is_loop}
+use Rattle.thread_tree.specs.Actions.{declared_by, is_loop}
 use Rattle.thread_machine.specs.declared.context.Ctx.{Ctx}
 use Rattle.thread_machine.specs.Context.{IsCounted, Level, kept_in, level_of, local_of, rest_of, statement_of, to_do}
 use Rattle.thread_machine.specs.Loops.{loops_from, loops_of}
 use Rattle.thread_machine.specs.Seeking.{IsOnWay, names_in, sought, spots_from, spots_of}
+use Rattle.thread_machine.specs.Scope.{IsScoped}
 use Rattle.thread_machine.specs.Within.{AreWithin, IsWithin, blocks_in, locals_in}
-use Rattle.thread_machine.proofs.ActionLaws.{slice_get_behind}
+use Rattle.thread_check.proofs.Callers.{slice_get_behind}
+use Rattle.thread_machine.proofs.KeepLemmas.{went_on}
 use Rattle.thread_machine.proofs.ListLemmas.{drop_at_item}
 use Rattle.thread_machine.proofs.RoomLemmas.{room, weight_parts, weight_out}
 use Rattle.thread_machine.proofs.SeekLemmas.{filter_append, loops_among, loops_count_of}
@@ -108,6 +110,9 @@ skipped p ctx next s more way here kept moved names =
         waiting = ap (λ (m : Level). m.waiting) same ∙ way.waiting;
         result = ap (λ (m : Level). m.result) same ∙ way.result;
         within = subst (IsWithin p) (sym moved) (behind_within p ctx s more way here names);
+        scoped =
+            subst (IsScoped p) (sym kept)
+            (went_on p ctx.body ctx.cursors.items ctx.slots.items next.slots.items ctx.base ctx.at s here scope way.scoped);
       },
       λ left.
           rw (same, at, scope)

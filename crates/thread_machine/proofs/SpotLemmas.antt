@@ -14,7 +14,7 @@ use Rattle.thread_tree.specs.LocalState.Thing.{Do, End, Test, Turn}
 use Rattle.thread_tree.specs.Actions.{Spot, SpotsOf, SpotsIn, at_turn, declared_by, inside, is_loop, loops, spots, spots_in, spots_in_layer, spots_in_turn, spots_of_layer}
 use Rattle.thread_machine.specs.Within.{AreWithin, IsWithin}
 use Rattle.thread_tree.specs.Limits.{IsSound}
-use Rattle.thread_machine.proofs.Induction.{each_block}
+use Rattle.thread_check.proofs.Callers.{each_block}
 use Rattle.thread_machine.proofs.RoomLemmas.{weight_parts, weight_out}
 use Rattle.thread_machine.proofs.WithinLemmas.{HasRoom, block_within, body_within, fewer_within, head_has_room, length_named, turn_within}
 

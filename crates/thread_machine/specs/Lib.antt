@@ -4,8 +4,8 @@ pub mod Within
 pub mod Reached
 pub mod Next
 pub mod Operands
-pub mod ActionLists
 pub mod Parts
 pub mod Lives
 pub mod Loops
 pub mod Seeking
+pub mod Scope

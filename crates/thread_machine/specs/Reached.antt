@@ -6,6 +6,7 @@ use Rattle.thread_tree.specs.LocalState.{LocalState, birth, move, next_action, b
 use Rattle.thread_tree.specs.Actions.{Spot, loops, inside}
 use Rattle.thread_machine.specs.declared.context.Ctx.{Ctx}
 use Rattle.thread_machine.specs.Context.{IsCounted, local_of}
+use Rattle.thread_machine.specs.Scope.{IsScoped}
 
 -- the states that a thread reaches: a birth, the first statement of a persistent loop, and what
 -- moves, results of actions and turns make of them
@@ -23,3 +24,4 @@ pub data Reached : Program → LocalState → Type 0 where
 pub record IsContext (p : Program) (ctx : Ctx) : Type 0 where
   pub reached : Reached p (local_of p ctx)
   pub counted : IsCounted p ctx
+  pub scoped : IsScoped p ctx

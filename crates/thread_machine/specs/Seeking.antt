@@ -16,6 +16,7 @@ use Rattle.thread_machine.specs.declared.context.Way.TheVariants as ways
 use Rattle.thread_machine.specs.Context.{again_of, block_inside, comes_again, level_of, local_of, rest_of, statement_of}
 use Rattle.thread_tree.specs.Need.{callees, need_of, weight_of}
 use Rattle.thread_machine.specs.Loops.{loops_from, loops_in, loops_of}
+use Rattle.thread_machine.specs.Scope.{IsScoped}
 use Rattle.thread_machine.specs.Within.{IsWithin}
 
 -- the spots in a block that may be left out
@@ -61,6 +62,7 @@ pub record IsOnWay (p : Program) (ctx : Ctx) : Type 0 where
   pub waiting : (level_of p ctx).waiting ≡ []
   pub result : (level_of p ctx).result ≡ None
   pub within : IsWithin p (local_of p ctx)
+  pub scoped : IsScoped p ctx
 
 -- what is to be done when a block of a statement has ended, by its layer
 abbrev pub after_block : Stmt-F Stmt Block → Stmt → List Thing → List Thing

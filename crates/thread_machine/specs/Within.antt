@@ -4,6 +4,7 @@ use Rattle.thread_tree.specs.Program.{Program}
 use Rattle.thread_tree.specs.Need.{Need, Weight, needs, nothing, weight_of, need_of, callees}
 use Rattle.thread_tree.specs.LocalState.{Thing, Frame, LocalState}
 use Rattle.thread_tree.specs.LocalState.Thing.{Do, End, Test, Turn}
+use Rattle.thread_tree.specs.declared.limits.TheConstants.{LOCALS, BLOCKS}
 
 -- what a thing to do needs, and how many locals it leaves
 abbrev pub weight_of_thing : (ℕ → Need) → Thing → Weight
@@ -46,8 +47,8 @@ blocks_in (frame ∷ frames) = suc (ends frame.todo) + blocks_in frames
 abbrev pub AreWithin : (ℕ → Need) → ℕ → ℕ → ℕ → List Thing → Type 0
 AreWithin callee before blocks count [] = Unit {0}
 AreWithin callee before blocks count (thing ∷ things) =
-    (before + count + (weight_of_thing callee thing).need.locals ≤ 48)
-    × (blocks + suc (ends things) + (weight_of_thing callee thing).need.blocks ≤ 24)
+    (before + count + (weight_of_thing callee thing).need.locals ≤ LOCALS)
+    × (blocks + suc (ends things) + (weight_of_thing callee thing).need.blocks ≤ BLOCKS)
     × AreWithin callee before blocks (locals_after callee thing count) things
 
 -- each frame stays within the limits

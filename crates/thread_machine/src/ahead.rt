@@ -2,7 +2,7 @@ ghost use Rattle.std.specs.Prelude.{◌≡◌, ◌+◌};
 ghost use Rattle.thread_tree.specs.Ahead.{ahead};
 ghost use Rattle.thread_tree.specs.Program.{program_of};
 ghost use Rattle.thread_machine.specs.Context.{local_of};
-ghost use Rattle.thread_machine.specs.Next.{IsNext};
+ghost use Rattle.thread_machine.specs.Next.{IsAtSpot, IsNext};
 ghost use Rattle.thread_machine.specs.Reached.{IsContext};
 
 use crate::context::Ctx;
@@ -22,6 +22,7 @@ impl Ctx {
             (ahead (program_of program.now) (local_of (program_of program.now) self.old)).arrival result }
         ensures moved { local_of (program_of program.now) self.new
             ≡ (ahead (program_of program.now) (local_of (program_of program.now) self.old)).local }
+        ensures spot { IsAtSpot (program_of program.now) (local_of (program_of program.now) self.new) result }
         ensures stepped { steps.new
             ≡ steps.old + (ahead (program_of program.now) (local_of (program_of program.now) self.old)).moves }
     {

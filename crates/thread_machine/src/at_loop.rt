@@ -13,7 +13,7 @@ use crate::fresh::declare_parameters;
 use crate::loops::loops_in;
 use arrayvec::ArrayVec;
 use thread_check::Checked;
-use thread_tree::{Local, Tree};
+use thread_tree::{LOCALS, Local, Tree};
 
 /// The number of the body that has the persistent loop of this number, and the loop's number in it.
 #[tactic(auto, using(crate::proofs::LoopLemmas::place_laws))]
@@ -39,8 +39,8 @@ fn place_of(tree: &Tree, number: usize) -> (usize, usize)
 }
 
 /// Locals of the same names with these values.
-fn with_values(locals: &[Local], values: &[u32]) -> ArrayVec<Local, 48>
-    requires room { length locals.now ≤ 48 }
+fn with_values(locals: &[Local], values: &[u32]) -> ArrayVec<Local, LOCALS>
+    requires room { length locals.now ≤ LOCALS }
     ensures values { result.items ≡ named (names_in locals.now) values.now }
 {
     let mut slots = ArrayVec::new();
@@ -63,7 +63,7 @@ impl Ctx {
             → IsBegun (program_of tree.now) result whole }
     {
         let mut slots = ArrayVec::new();
-        declare_parameters(&mut slots, numbered(tree, body), &[0; 48]);
+        declare_parameters(&mut slots, numbered(tree, body), &[0; LOCALS]);
         Ctx {
             slots,
             base: 0,

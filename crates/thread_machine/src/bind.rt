@@ -16,7 +16,7 @@ use crate::scope::assign;
 use crate::walk::statement_at;
 use arrayvec::ArrayVec;
 use thread_check::Checked;
-use thread_tree::{At, Expr, List, Local, Stmt};
+use thread_tree::{At, Expr, LOCALS, List, Local, Stmt};
 
 impl Ctx {
     /// Gives the results of the action at which the context stands to the names that take them, and
@@ -83,7 +83,7 @@ fn names_taking<'a>(statement: &'a Stmt) -> Option<&'a List<At>>
 }
 
 /// Gives locals of these names these values, one after another, among the slots from `base` on.
-fn assign_all(slots: &mut ArrayVec<Local, 48>, base: usize, names: &List<At>, values: &[u32])
+fn assign_all(slots: &mut ArrayVec<Local, LOCALS>, base: usize, names: &List<At>, values: &[u32])
     requires within { base ≤ length slots.old.items }
     ensures assigned { slots.new.items
         ≡ take base slots.old.items ++ with_values (drop base slots.old.items) (names_of names.now) values.now }
@@ -95,7 +95,7 @@ fn assign_all(slots: &mut ArrayVec<Local, 48>, base: usize, names: &List<At>, va
 
 /// Gives locals of these names, if there are any, these values, among the slots from `base` on.
 fn give_results(
-    slots: &mut ArrayVec<Local, 48>,
+    slots: &mut ArrayVec<Local, LOCALS>,
     base: usize,
     names: Option<&List<At>>,
     values: &[u32],

@@ -1,5 +1,5 @@
 use arrayvec::ArrayVec;
-use thread_tree::Local;
+use thread_tree::{BLOCKS, LOCALS, Local};
 
 /// Which block of a statement was entered, or the body that it calls.
 #[derive(Clone, Copy, Debug, Default, Drop, PartialEq)]
@@ -29,10 +29,10 @@ pub struct Cursor {
 /// block has just ended.
 #[derive(Debug, Drop)]
 pub struct Ctx {
-    pub(crate) slots: ArrayVec<Local, 48>,
+    pub(crate) slots: ArrayVec<Local, LOCALS>,
     pub(crate) base: usize,
     pub(crate) body: usize,
-    pub(crate) cursors: ArrayVec<Cursor, 24>,
+    pub(crate) cursors: ArrayVec<Cursor, BLOCKS>,
     pub(crate) at: usize,
     pub(crate) again: bool,
 }

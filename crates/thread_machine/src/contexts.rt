@@ -3,14 +3,16 @@ ghost use Rattle.std.specs.Option.{option_copied};
 
 use crate::context::Ctx;
 use std::marker::Model;
+use thread_tree::ROWS;
 
 /// Sixteen places for contexts, by the numbers of threads. Contracts see the list of them.
 #[derive(Debug, Drop)]
 pub struct Contexts {
-    all: [Option<Ctx>; 16],
+    all: [Option<Ctx>; ROWS],
 }
 
 impl Model for Contexts {
+    ghost use Rattle.thread_tree.specs.declared.limits.TheConstants.{ROWS};
     ghost use Rattle.std.specs.Prelude.{◌≡◌, List, Option, length};
     ghost use Rattle.thread_machine.specs.declared.context.Ctx.{Ctx};
 
@@ -18,13 +20,13 @@ impl Model for Contexts {
 
     ghost view = { λ contexts. contexts.all };
 
-    ghost invariant = { λ contexts. length contexts.all ≡ 16 };
+    ghost invariant = { λ contexts. length contexts.all ≡ ROWS };
 }
 
 impl Contexts {
     /// No context of any thread.
     pub fn none() -> Contexts
-        ensures none { result ≡ replicate 16 None }
+        ensures none { result ≡ replicate ROWS None }
     {
         Contexts {
             all: [
@@ -61,7 +63,7 @@ impl Contexts {
 
     /// Puts a context, or none, in the place of a thread.
     pub fn set(&mut self, thread: u32, ctx: Option<Ctx>)
-        requires thread { thread < 16 }
+        requires thread { thread < ROWS }
         ensures put { self.new ≡ slice_set self.old thread ctx }
     {
         self.all[thread as usize] = ctx;

@@ -1,10 +1,10 @@
 ghost use Rattle.std.specs.Prelude.{◌≡◌, ◌+◌, ◌^◌, ◌<◌, ◌≤◌, length, option_map, slice_get, take};
 ghost use Rattle.thread_tree.specs.declared.block.Stmt.{out-Stmt};
-ghost use Rattle.thread_tree.specs.Actions.{actions};
+ghost use Rattle.thread_tree.specs.Actions.{actions, spots};
 ghost use Rattle.thread_tree.specs.Program.{function_of, program_of};
-ghost use Rattle.thread_machine.specs.ActionLists.{actions_in, actions_in_turn, actions_layer, actions_of_declaration};
+ghost use Rattle.thread_check.specs.ActionLists.{actions_in, actions_in_turn, actions_layer, actions_of_declaration};
 ghost use Rattle.thread_machine.specs.Context.{block_in, body_of};
-ghost use Rattle.thread_machine.specs.Parts.{IsPart, actions_if_some};
+ghost use Rattle.thread_machine.specs.Parts.{IsPart, actions_if_some, spots_of_body};
 
 use crate::body::{body_in, function_in};
 use thread_tree::{Block, Decl, List, Stmt, Tree};
@@ -84,6 +84,8 @@ pub fn body_offset(tree: &Tree, number: usize) -> usize
     requires few { length (actions (program_of tree.now)) < 2 ^ 32 }
     ensures part { IsPart (actions_if_some (block_in (slice_get (program_of tree.now).bodies number)))
         (actions (program_of tree.now)) result }
+    ensures spots { IsPart (spots_of_body (slice_get (program_of tree.now).bodies number))
+        (spots (program_of tree.now)) result }
 {
     let mut left = number;
     let mut offset: usize = 0;

@@ -9,7 +9,7 @@ use crate::body::{Body, body_number, template as template_of};
 use crate::context::Ctx;
 use arrayvec::ArrayVec;
 use thread_check::Checked;
-use thread_tree::{At, List, Local};
+use thread_tree::{At, LOCALS, List, Local};
 
 impl Ctx {
     /// The context of a thread that is born of the template of this number with these arguments.
@@ -36,8 +36,8 @@ impl Ctx {
 }
 
 /// Declares locals of these names with these values.
-fn declare_all(slots: &mut ArrayVec<Local, 48>, names: &List<At>, values: &[u32])
-    requires room { length slots.old.items + length names.now ≤ 48 }
+fn declare_all(slots: &mut ArrayVec<Local, LOCALS>, names: &List<At>, values: &[u32])
+    requires room { length slots.old.items + length names.now ≤ LOCALS }
     ensures declared { slots.new.items ≡ slots.old.items ++ named (names_of names.now) values.now }
 {
     for at in 0..names.len().min(values.len()) {
@@ -49,8 +49,8 @@ fn declare_all(slots: &mut ArrayVec<Local, 48>, names: &List<At>, values: &[u32]
 }
 
 /// Declares the parameters of a body, if there is one, with these values.
-pub fn declare_parameters(slots: &mut ArrayVec<Local, 48>, body: Option<Body>, values: &[u32])
-    requires room { IfSome body (λ b. length slots.old.items + length b.parameters.now ≤ 48) }
+pub fn declare_parameters(slots: &mut ArrayVec<Local, LOCALS>, body: Option<Body>, values: &[u32])
+    requires room { IfSome body (λ b. length slots.old.items + length b.parameters.now ≤ LOCALS) }
     ensures declared { slots.new.items ≡ slots.old.items
         ++ named (parameters_of (option_map seen body.entry)) values.now }
 {

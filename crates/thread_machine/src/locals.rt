@@ -8,11 +8,11 @@ ghost use Rattle.thread_machine.specs.Reached.{IsContext};
 use crate::context::Ctx;
 use arrayvec::ArrayVec;
 use thread_check::Checked;
-use thread_tree::Local;
+use thread_tree::{LOCALS, Local};
 
 impl Ctx {
     /// The locals in scope, from the outermost frame inwards, in order of declaration.
-    pub fn locals(&self, program: &Checked) -> ArrayVec<Local, 48>
+    pub fn locals(&self, program: &Checked) -> ArrayVec<Local, LOCALS>
         requires context { IsContext (program_of program.now) self.now }
         ensures locals { result.items ≡ locals_of (local_of (program_of program.now) self.now) }
     {
@@ -27,12 +27,12 @@ impl Ctx {
     /// The locals of the innermost frame, in order of declaration. With all that the statement at
     /// hand declares they are at most 48.
     #[tactic(auto, using(crate::proofs::OwnLemmas::own_room))]
-    pub fn own_locals(&self, program: &Checked) -> ArrayVec<Local, 48>
+    pub fn own_locals(&self, program: &Checked) -> ArrayVec<Local, LOCALS>
         requires context { IsContext (program_of program.now) self.now }
         ensures locals { result.items ≡ (local_of (program_of program.now) self.now).top.locals }
         ensures room { IfSome (next_statement (local_of (program_of program.now) self.now).top.todo)
             (λ s. length (local_of (program_of program.now) self.now).top.locals
-            + (weight_of (callees (program_of program.now)) s).need.locals ≤ 48) }
+            + (weight_of (callees (program_of program.now)) s).need.locals ≤ LOCALS) }
     {
         let _ = program.tree();
         let _ = self.slots.len();

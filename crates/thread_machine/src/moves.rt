@@ -1,13 +1,16 @@
 ghost use Rattle.std.specs.Option.{IfNone, IfSome, MatchOption, is_some, option_to_list};
-ghost use Rattle.std.specs.Prelude.{Option, ℕ, ◌≢◌, ◌≡◌, ◌+◌, ◌-◌, ◌<◌, ◌≤◌, [], false, ◌∷◌, ◌++◌, length, drop, take, slice_get, if◌then◌else◌};
+ghost use Rattle.std.specs.Prelude.{Option, List, ℕ, ◌≢◌, ◌≡◌, ◌+◌, ◌-◌, ◌<◌, ◌≤◌, [], false, ◌∷◌, ◌++◌, length, drop, take, slice_get, if◌then◌else◌};
 ghost use Rattle.thread_tree.specs.declared.block.Block.{Block};
 ghost use Rattle.thread_tree.specs.declared.block.Stmt.{Stmt, out-Stmt};
 ghost use Rattle.thread_tree.specs.declared.block.Stmt.TheOpen as stmt;
+ghost use Rattle.thread_tree.specs.declared.local.Local.{Local as Held};
 ghost use Rattle.thread_tree.specs.declared.place.At.{At};
 ghost use Rattle.thread_tree.specs.declared.expr.Expr.{Expr};
 ghost use Rattle.thread_tree.specs.Program.{Program, function_of, names_of, program_of};
 ghost use Rattle.thread_tree.specs.Value.{value_of, values_in};
 ghost use Rattle.thread_tree.specs.LocalState.{assigned, branched, broken_off, called, declared_local, ended, entered, going_on, moved, named, returned, tested};
+ghost use Rattle.thread_tree.specs.Actions.{declared_by};
+ghost use Rattle.thread_machine.specs.Scope.{IsOpen, IsOpenBy, IsScoped};
 ghost use Rattle.thread_machine.specs.Context.{IsCounted, after_of, block_inside, is_loop, kept_in, level_along, level_called, level_of, local_of, rest_of, state_at, statement_of, todo_after, todo_behind};
 
 use crate::body::{Body, function};
@@ -15,7 +18,7 @@ use crate::context::{Ctx, Cursor, Way};
 use crate::scope::{assign, fill, give};
 use crate::walk::{is_loop, place_after, place_behind, statement_at, taking};
 use arrayvec::ArrayVec;
-use thread_tree::{Expr, List, Local, Tree};
+use thread_tree::{BLOCKS, Expr, LOCALS, List, Local, Tree};
 
 impl Ctx {
     /// The locals of the innermost frame.
@@ -27,10 +30,13 @@ impl Ctx {
     }
 
     /// Goes on behind the statement at hand.
+    #[tactic(auto, using(crate::proofs::KeepLemmas::passed_on))]
     pub fn pass(&mut self)
         requires fits { self.old.at < usize.MAX }
         ensures kept { self.new ≡ record self.old { at = self.old.at + 1; again = false } }
         ensures counted { (p : Program) → IsCounted p self.old → IsCounted p self.new }
+        ensures scoped { (p : Program) (s : Stmt) → statement_of p self.old ≡ Some s → declared_by (out-Stmt s) ≡ []
+            → IsScoped p self.old → IsScoped p self.new }
         ensures moved { (p : Program) → local_of p self.new ≡ going_on (local_of p self.old) (rest_of p self.old) }
     {
         self.at += 1;
@@ -41,9 +47,11 @@ impl Ctx {
     pub fn declare(&mut self, name: u32, value: u32)
         requires fits { self.old.at < usize.MAX }
         requires within { self.old.base ≤ length self.old.slots.items }
-        requires room { length self.old.slots.items < 48 }
+        requires room { length self.old.slots.items < LOCALS }
         ensures kept { self.new ≡ record self.old { slots = self.new.slots; at = self.old.at + 1; again = false } }
         ensures counted { (p : Program) → IsCounted p self.old → IsCounted p self.new }
+        ensures scoped { (p : Program) (s : Stmt) → statement_of p self.old ≡ Some s
+            → declared_by (out-Stmt s) ≡ name ∷ [] → IsScoped p self.old → IsScoped p self.new }
         ensures moved { (p : Program) → local_of p self.new
             ≡ declared_local (local_of p self.old) name value (rest_of p self.old) }
     {
@@ -52,13 +60,15 @@ impl Ctx {
         self.again = false;
     }
 
-    #[tactic(auto, using(crate::proofs::StateLemmas::length_assigned))]
+    #[tactic(auto, using(crate::proofs::StateLemmas::length_assigned, crate::proofs::KeepLemmas::passed_on, crate::proofs::NameLemmas::names_assigned))]
     /// Assigns a local, and goes on behind the statement at hand.
     pub fn set(&mut self, name: u32, value: u32)
         requires fits { self.old.at < usize.MAX }
         requires within { self.old.base ≤ length self.old.slots.items }
         ensures kept { self.new ≡ record self.old { slots = self.new.slots; at = self.old.at + 1; again = false } }
         ensures counted { (p : Program) → IsCounted p self.old → IsCounted p self.new }
+        ensures scoped { (p : Program) (s : Stmt) → statement_of p self.old ≡ Some s
+            → declared_by (out-Stmt s) ≡ [] → IsScoped p self.old → IsScoped p self.new }
         ensures moved { (p : Program) → local_of p self.new
             ≡ assigned (local_of p self.old) name value (rest_of p self.old) }
     {
@@ -71,11 +81,13 @@ impl Ctx {
     pub fn enter(&mut self, way: Way)
         requires block { way ≢ Way.Call }
         requires within { self.old.base ≤ length self.old.slots.items }
-        requires room { length self.old.cursors.items < 24 }
+        requires room { length self.old.cursors.items < BLOCKS }
         ensures cursors { self.new.cursors.items ≡ self.old.cursors.items
             ++ record { at = self.old.at; way = way; keep = length self.old.slots.items - self.old.base } ∷ [] }
         ensures kept { self.new ≡ record self.old { cursors = self.new.cursors; at = 0; again = false } }
         ensures counted { (p : Program) → IsCounted p self.old → IsCounted p self.new }
+        ensures scoped { (p : Program) (s : Stmt) → statement_of p self.old ≡ Some s → declared_by (out-Stmt s) ≡ []
+            → IsScoped p self.old → IsScoped p self.new }
         ensures moved { (p : Program) (s : Stmt) (block : Block) → statement_of p self.old ≡ Some s
             → block_inside p way s ≡ Some block
             → local_of p self.new ≡ entered (local_of p self.old) block (after_of p self.old) }
@@ -94,8 +106,10 @@ impl Ctx {
     pub fn branch(&mut self, value: u32, has_other: bool)
         requires fits { self.old.at < usize.MAX }
         requires within { self.old.base ≤ length self.old.slots.items }
-        requires room { length self.old.cursors.items < 24 }
+        requires room { length self.old.cursors.items < BLOCKS }
         ensures counted { (p : Program) → IsCounted p self.old → IsCounted p self.new }
+        ensures scoped { (p : Program) (s : Stmt) → statement_of p self.old ≡ Some s → declared_by (out-Stmt s) ≡ []
+            → IsScoped p self.old → IsScoped p self.new }
         ensures moved { (p : Program) (s : Stmt) (e : Expr) (block : Block) (other : Option Block)
             → statement_of p self.old ≡ Some s → out-Stmt s ≡ stmt.If e block other
             → is_some other ≡ has_other → value ≡ value_of (local_of p self.old).top.locals e
@@ -116,8 +130,10 @@ impl Ctx {
     pub fn test(&mut self, value: u32)
         requires fits { self.old.at < usize.MAX }
         requires within { self.old.base ≤ length self.old.slots.items }
-        requires room { length self.old.cursors.items < 24 }
+        requires room { length self.old.cursors.items < BLOCKS }
         ensures counted { (p : Program) → IsCounted p self.old → IsCounted p self.new }
+        ensures scoped { (p : Program) (s : Stmt) → statement_of p self.old ≡ Some s → declared_by (out-Stmt s) ≡ []
+            → IsScoped p self.old → IsScoped p self.new }
         ensures moved { (p : Program) (s : Stmt) (e : Expr) (block : Block)
             → statement_of p self.old ≡ Some s → out-Stmt s ≡ stmt.While e block
             → value ≡ value_of (local_of p self.old).top.locals e
@@ -131,8 +147,10 @@ impl Ctx {
     }
 
     /// Goes to the end of the innermost block.
+    #[tactic(auto, using(crate::proofs::KeepLemmas::finished))]
     fn finish(&mut self, tree: &Tree)
         ensures kept { self.new ≡ record self.old { at = self.new.at; again = false } }
+        ensures scoped { IsOpen (program_of tree.now) self.old → IsScoped (program_of tree.now) self.new }
         ensures moved { (level_of (program_of tree.now) self.old).behind ≡ []
             → local_of (program_of tree.now) self.new
             ≡ going_on (local_of (program_of tree.now) self.old) [] }
@@ -159,6 +177,8 @@ impl Ctx {
     fn leave(&mut self, tree: &Tree, cursor: Cursor)
         requires within { self.old.base ≤ length self.old.slots.items }
         ensures counted { IsCounted (program_of tree.now) self.old → IsCounted (program_of tree.now) self.new }
+        ensures scoped { cursor.way ≢ Way.Call → IsOpenBy (program_of tree.now) self.old.body
+            (self.old.cursors.items ++ cursor ∷ []) self.old.slots.items self.old.base → IsScoped (program_of tree.now) self.new }
         ensures moved { local_of (program_of tree.now) self.new
             ≡ ended (local_of (program_of tree.now) self.old) cursor.keep
             (todo_after (level_of (program_of tree.now) self.old) cursor.at) }
@@ -175,6 +195,8 @@ impl Ctx {
         requires kept { cursor.keep ≤ self.old.base }
         ensures counted { kept_in (level_of (program_of tree.now) self.old).waiting + cursor.keep ≡ self.old.base
             → IsCounted (program_of tree.now) self.new }
+        ensures scoped { cursor.way ≡ Way.Call → IsOpenBy (program_of tree.now) self.old.body
+            (self.old.cursors.items ++ cursor ∷ []) self.old.slots.items self.old.base → IsScoped (program_of tree.now) self.new }
         ensures moved { local_of (program_of tree.now) self.new
             ≡ returned (state_at
             (level_called (program_of tree.now) (level_of (program_of tree.now) self.old) cursor.at cursor.keep)
@@ -192,6 +214,7 @@ impl Ctx {
     pub fn give_back(&mut self, tree: &Tree, value: u32)
         requires counted { IsCounted (program_of tree.now) self.old }
         ensures counted { IsCounted (program_of tree.now) self.new }
+        ensures scoped { IsScoped (program_of tree.now) self.old → IsScoped (program_of tree.now) self.new }
         ensures moved { local_of (program_of tree.now) self.new
             ≡ returned (local_of (program_of tree.now) self.old) value }
     {
@@ -207,6 +230,7 @@ impl Ctx {
         requires counted { IsCounted (program_of tree.now) self.old }
         ensures counted { IsCounted (program_of tree.now) self.new }
         ensures unmoved { result ≡ false → self.new ≡ self.old }
+        ensures scoped { IsScoped (program_of tree.now) self.old → IsScoped (program_of tree.now) self.new }
         ensures moved { moved (program_of tree.now) (local_of (program_of tree.now) self.old)
             (level_of (program_of tree.now) self.old).behind
             ≡ (if result then Some (local_of (program_of tree.now) self.new) else None) }
@@ -228,6 +252,8 @@ impl Ctx {
         requires fits { self.old.at < usize.MAX }
         requires counted { IsCounted (program_of tree.now) self.old }
         ensures counted { IsCounted (program_of tree.now) self.new }
+        ensures scoped { (s : Stmt) → statement_of (program_of tree.now) self.old ≡ Some s → declared_by (out-Stmt s) ≡ []
+            → IsScoped (program_of tree.now) self.old → IsScoped (program_of tree.now) self.new }
         ensures moved { local_of (program_of tree.now) self.new
             ≡ broken_off (local_of (program_of tree.now) self.old) (rest_of (program_of tree.now) self.old) }
     {
@@ -255,6 +281,8 @@ impl Ctx {
         ensures kept { self.new.cursors ≡ self.old.cursors }
         ensures again { self.new.again ≡ false }
         ensures left { result ≡ is_loop (slice_get (level_of (program_of tree.now) self.old).stmts cursor.at) }
+        ensures scoped { cursor.way ≢ Way.Call → IsOpenBy (program_of tree.now) self.old.body
+            (self.old.cursors.items ++ cursor ∷ []) self.old.slots.items self.old.base → IsScoped (program_of tree.now) self.new }
         ensures moved { local_of (program_of tree.now) self.new
             ≡ ended (local_of (program_of tree.now) self.old) cursor.keep
             (todo_behind (level_of (program_of tree.now) self.old) cursor.at) }
@@ -270,10 +298,13 @@ impl Ctx {
     pub fn call(&mut self, tree: &Tree, callee: u32, arguments: &List<Expr>)
         requires fits { self.old.at < usize.MAX }
         requires counted { IsCounted (program_of tree.now) self.old }
-        requires room { length self.old.cursors.items < 24 }
+        requires room { length self.old.cursors.items < BLOCKS }
         requires locals { IfSome (function_of (program_of tree.now) callee)
-            (λ f. length self.old.slots.items + length f.parameters ≤ 48) }
+            (λ f. length self.old.slots.items + length f.parameters ≤ LOCALS) }
         ensures counted { IsCounted (program_of tree.now) self.new }
+        ensures scoped { (s : Stmt) (to : Option At) (name : At) → statement_of (program_of tree.now) self.old ≡ Some s
+            → out-Stmt s ≡ stmt.Apply to name arguments.now → name.name ≡ callee
+            → IsScoped (program_of tree.now) self.old → IsScoped (program_of tree.now) self.new }
         ensures moved { (s : Stmt) (to : Option At) (name : At) → statement_of (program_of tree.now) self.old ≡ Some s
             → out-Stmt s ≡ stmt.Apply to name arguments.now → name.name ≡ callee
             → local_of (program_of tree.now) self.new
@@ -289,8 +320,8 @@ impl Ctx {
     /// Enters the body of a function that the statement at hand calls.
     fn open(&mut self, body: Body, arguments: &List<Expr>)
         requires within { self.old.base ≤ length self.old.slots.items }
-        requires room { length self.old.cursors.items < 24 }
-        requires locals { length self.old.slots.items + length body.parameters.now ≤ 48 }
+        requires room { length self.old.cursors.items < BLOCKS }
+        requires locals { length self.old.slots.items + length body.parameters.now ≤ LOCALS }
         ensures cursors { self.new.cursors.items ≡ self.old.cursors.items
             ++ record { at = self.old.at; way = Way.Call; keep = length self.old.slots.items - self.old.base } ∷ [] }
         ensures slots { self.new.slots.items ≡ self.old.slots.items
@@ -319,12 +350,14 @@ impl Ctx {
 }
 
 /// Takes away cursors up to the one of the call of the innermost body, if it was called.
-fn pop_call(cursors: &mut ArrayVec<Cursor, 24>) -> Option<Cursor>
+fn pop_call(cursors: &mut ArrayVec<Cursor, BLOCKS>) -> Option<Cursor>
     ensures call { MatchOption result (cursors.new.items ≡ []) (λ cursor. cursor.way ≡ Way.Call) }
     ensures waiting { (p : Program) (template : ℕ) → (level_along p template cursors.old.items).waiting
         ≡ (level_along p template (cursors.new.items ++ option_to_list result)).waiting }
     ensures result { (p : Program) (template : ℕ) → (level_along p template cursors.old.items).result
         ≡ (level_along p template (cursors.new.items ++ option_to_list result)).result }
+    ensures scoped { (p : Program) (body base : ℕ) (slots : List Held) → IsOpenBy p body cursors.old.items slots base
+        → IsOpenBy p body (cursors.new.items ++ option_to_list result) slots base }
 {
     while let Some(cursor) = cursors.pop() {
         match cursor.way {
@@ -336,7 +369,7 @@ fn pop_call(cursors: &mut ArrayVec<Cursor, 24>) -> Option<Cursor>
 }
 
 /// Takes away the innermost cursor, if it is one of a block.
-fn pop_block(cursors: &mut ArrayVec<Cursor, 24>) -> Option<Cursor>
+fn pop_block(cursors: &mut ArrayVec<Cursor, BLOCKS>) -> Option<Cursor>
     ensures block { IfSome result (λ cursor. cursor.way ≢ Way.Call) }
     ensures popped { cursors.old.items ≡ cursors.new.items ++ option_to_list result }
     ensures body { IfNone result ((p : Program) (template : ℕ)

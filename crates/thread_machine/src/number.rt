@@ -1,11 +1,12 @@
-ghost use Rattle.std.specs.Prelude.{◌≡◌, ◌^◌, ◌<◌, false, length, option_and_then, slice_get, IfSome, IsSomeAnd};
+ghost use Rattle.std.specs.Prelude.{◌≡◌, ◌^◌, ◌<◌, false, [], Some, length, option_and_then, slice_get, IfSome, IsSomeAnd};
 ghost use Rattle.std.specs.Option.{option_copied};
-ghost use Rattle.thread_tree.specs.declared.block.Stmt.{out-Stmt};
-ghost use Rattle.thread_tree.specs.Actions.{actions};
+ghost use Rattle.thread_tree.specs.declared.block.Stmt.{Stmt, out-Stmt};
+ghost use Rattle.thread_tree.specs.Actions.{actions, names_in, spot_at, spots};
 ghost use Rattle.thread_tree.specs.Program.{program_of};
-ghost use Rattle.thread_machine.specs.ActionLists.{actions_in, actions_layer};
-ghost use Rattle.thread_machine.specs.Context.{block_in, block_inside, called_body, is_move, statement_of, statements};
-ghost use Rattle.thread_machine.specs.Parts.{IsPart, actions_if_some, first_offset, other_offset};
+ghost use Rattle.thread_check.specs.ActionLists.{actions_in, actions_layer};
+ghost use Rattle.thread_machine.specs.Context.{block_in, block_inside, called_body, is_move, level_of, local_of, rest_of, statement_of, statements};
+ghost use Rattle.thread_machine.specs.Parts.{IsEntered, IsPart, actions_if_some, first_offset, other_offset};
+ghost use Rattle.thread_machine.specs.Scope.{IsScoped};
 
 use crate::context::{Ctx, Cursor, Way};
 use crate::count::{body_offset, count_before, count_in, function_offset};
@@ -36,7 +37,7 @@ fn other_offset(statement: &Stmt) -> usize
 }
 
 /// How many actions stand before those of the function that a statement calls.
-#[tactic(auto, using(crate::proofs::NumberLemmas::part_zero))]
+#[tactic(auto, using(crate::proofs::PartLemmas::part_zero))]
 fn called_offset(tree: &Tree, statement: &Stmt) -> usize
     requires few { length (actions (program_of tree.now)) < 2 ^ 32 }
     ensures part { IsPart (actions_if_some (block_in (called_body (program_of tree.now) (out-Stmt statement.now))))
@@ -56,6 +57,8 @@ fn inner_offset(tree: &Tree, block: &Block, offset: usize, at: usize, way: Way) 
     requires within { at < length (statements (Some block.now)) }
     ensures part { IfSome (slice_get (statements (Some block.now)) at) (λ s.
         IsPart (actions_if_some (block_inside (program_of tree.now) way s)) (actions (program_of tree.now)) result) }
+    ensures entered { IfSome (slice_get (statements (Some block.now)) at) (λ s.
+        IsEntered way offset (statements (Some block.now)) at s result) }
 {
     let statement = block.stmts.get(at);
     let before = offset.wrapping_add(count_before(&block.stmts, at));
@@ -73,6 +76,8 @@ fn offset_by(tree: &Tree, block: Option<&Block>, offset: usize, cursor: Cursor) 
     ensures part { IsPart (actions_if_some (option_and_then (block_inside (program_of tree.now) cursor.way)
         (slice_get (statements (option_copied block.entry)) cursor.at)))
         (actions (program_of tree.now)) result }
+    ensures entered { IfSome (slice_get (statements (option_copied block.entry)) cursor.at) (λ s.
+        IsEntered cursor.way offset (statements (option_copied block.entry)) cursor.at s result) }
 {
     match block {
         Some(block) => {
@@ -86,12 +91,19 @@ fn offset_by(tree: &Tree, block: Option<&Block>, offset: usize, cursor: Cursor) 
 }
 
 impl Ctx {
-    /// The number of the action at which the context stands, in order of the text.
+    /// The number of the action at which the context stands, in order of the text. In a body's own frame it is the
+    /// place of the action among all of the program where they stand.
     #[tactic(auto, using(crate::proofs::LevelLemmas::walk_laws))]
     pub fn number(&self, tree: &Tree) -> u32
         requires few { length (actions (program_of tree.now)) < 2 ^ 32 }
         requires action { IsSomeAnd (statement_of (program_of tree.now) self.now) (λ s. is_move (out-Stmt s) ≡ false) }
+        requires scoped { IsScoped (program_of tree.now) self.now }
         ensures number { slice_get (actions (program_of tree.now)) result ≡ statement_of (program_of tree.now) self.now }
+        ensures spot { (level_of (program_of tree.now) self.now).waiting ≡ []
+            → (s : Stmt) → statement_of (program_of tree.now) self.now ≡ Some s
+            → slice_get (spots (program_of tree.now)) result
+            ≡ Some (spot_at s (names_in (local_of (program_of tree.now) self.now).top.locals)
+            (rest_of (program_of tree.now) self.now)) }
     {
         let mut block = body_block(tree, self.body);
         let mut offset = body_offset(tree, self.body);

@@ -13,7 +13,7 @@ use crate::context::Ctx;
 use crate::walk::statement_at;
 use std::sync::ledger::Ledger;
 use step_counter::Steps;
-use thread_tree::{Stmt, Tree};
+use thread_tree::{MOVES, Stmt, Tree};
 
 impl Ctx {
     /// Makes moves up to the next action, to the end, or to the bound, and says whether no move is next.
@@ -29,7 +29,7 @@ impl Ctx {
         ensures stepped { steps.new
             ≡ steps.old + (ahead (program_of tree.now) (local_of (program_of tree.now) self.old)).moves }
     {
-        for at in 0..10_000u32 {
+        for at in 0..MOVES {
             if !self.step(tree) {
                 return true;
             }

@@ -6,12 +6,12 @@ ghost use Rattle.thread_tree.specs.LocalState.{named, with_value};
 
 use crate::evaluate::evaluate;
 use arrayvec::ArrayVec;
-use thread_tree::{At, Expr, List, Local};
+use thread_tree::{At, Expr, LOCALS, List, Local};
 
 /// Gives the local of this name a new value, among the slots from `base` on; nothing changes where
 /// none has the name.
 #[tactic(auto, using(crate::proofs::ScopeLemmas::with_value_laws))]
-pub fn assign(slots: &mut ArrayVec<Local, 48>, base: usize, name: u32, value: u32)
+pub fn assign(slots: &mut ArrayVec<Local, LOCALS>, base: usize, name: u32, value: u32)
     requires within { base ≤ length slots.old.items }
     ensures assigned { slots.new.items
         ≡ take base slots.old.items ++ with_value (drop base slots.old.items) name value }
@@ -25,7 +25,7 @@ pub fn assign(slots: &mut ArrayVec<Local, 48>, base: usize, name: u32, value: u3
 }
 
 /// Gives a result to the local of this name, if there is one, among the slots from `base` on.
-pub fn give(slots: &mut ArrayVec<Local, 48>, base: usize, name: Option<u32>, value: u32)
+pub fn give(slots: &mut ArrayVec<Local, LOCALS>, base: usize, name: Option<u32>, value: u32)
     requires within { base ≤ length slots.old.items }
     ensures given { slots.new.items ≡ given_slots name base value slots.old.items }
 {
@@ -38,13 +38,13 @@ pub fn give(slots: &mut ArrayVec<Local, 48>, base: usize, name: Option<u32>, val
 /// Declares the locals of a function that is called: its parameters with the values of the
 /// arguments over the slots from `base` on.
 pub fn fill(
-    slots: &mut ArrayVec<Local, 48>,
+    slots: &mut ArrayVec<Local, LOCALS>,
     base: usize,
     parameters: &List<At>,
     arguments: &List<Expr>,
 )
     requires within { base ≤ length slots.old.items }
-    requires room { length slots.old.items + length parameters.now ≤ 48 }
+    requires room { length slots.old.items + length parameters.now ≤ LOCALS }
     ensures filled { slots.new.items ≡ slots.old.items
         ++ named (names_of parameters.now) (values_in (drop base slots.old.items) arguments.now) }
 {

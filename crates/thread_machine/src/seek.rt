@@ -10,7 +10,7 @@ ghost use Rattle.thread_machine.specs.Seeking.{IsAtLoop, IsInner, IsOnWay, IsOwn
 use crate::context::{Ctx, Way};
 use crate::loops::{loops_in, loops_of};
 use crate::walk::statement_at;
-use thread_tree::{Stmt, Tree};
+use thread_tree::{BLOCKS, Stmt, Tree};
 
 /// The name of the local that a statement declares, if it declares one.
 fn declared(statement: &Stmt) -> Option<u32>
@@ -128,7 +128,7 @@ impl Ctx {
             → IsAtLoop (program_of tree.now) spot self.new }
     {
         let mut left = number;
-        for depth in 0..24u32 {
+        for depth in 0..BLOCKS {
             match self.approach(tree, left) {
                 None => return,
                 Some(here) => match self.narrow(tree, here) {

@@ -5,6 +5,7 @@ ghost use Rattle.thread_tree.specs.Value.{value_of};
 ghost use Rattle.thread_tree.specs.Need.{Fits};
 ghost use Rattle.thread_tree.specs.Program.{program_of};
 ghost use Rattle.thread_machine.specs.Context.{IsCounted, local_of, rest_of, statement_of};
+ghost use Rattle.thread_machine.specs.Scope.{IsScoped};
 ghost use Rattle.thread_machine.specs.Within.{IsWithin};
 
 use crate::context::Ctx;
@@ -19,6 +20,7 @@ impl Ctx {
         requires counted { IsCounted (program_of tree.now) self.old }
         requires within { IsWithin (program_of tree.now) (local_of (program_of tree.now) self.old) }
         ensures counted { IsCounted (program_of tree.now) self.new }
+        ensures scoped { IsScoped (program_of tree.now) self.old → IsScoped (program_of tree.now) self.new }
         ensures unmoved { result ≡ false → self.new ≡ self.old }
         ensures moved { move (program_of tree.now) (local_of (program_of tree.now) self.old)
             ≡ (if result then Some (local_of (program_of tree.now) self.new) else None) }
@@ -37,6 +39,7 @@ impl Ctx {
         requires counted { IsCounted (program_of tree.now) self.old }
         requires within { IsWithin (program_of tree.now) (local_of (program_of tree.now) self.old) }
         ensures counted { IsCounted (program_of tree.now) self.new }
+        ensures scoped { IsScoped (program_of tree.now) self.old → IsScoped (program_of tree.now) self.new }
         ensures unmoved { result ≡ false → self.new ≡ self.old }
         ensures moved { moved_by (program_of tree.now) (local_of (program_of tree.now) self.old)
             (rest_of (program_of tree.now) self.old) (out-Stmt statement.now)

@@ -3,6 +3,7 @@ use Rattle.std.specs.Prelude.{ℕ, zero, suc, ◌+◌, Option, Some, None}
 use Rattle.thread_tree.specs.declared.block.Stmt.{Stmt}
 use Rattle.thread_tree.specs.Program.{Program}
 use Rattle.thread_tree.specs.LocalState.{LocalState, move, next_statement}
+use Rattle.thread_tree.specs.declared.limits.TheConstants.{MOVES}
 
 -- how a thread that runs ahead arrives
 pub data Arrival : Type 0 where
@@ -44,7 +45,7 @@ ahead_by p (suc n) s = goes_on (λ t. ahead_by p n t) s (move p s)
 
 -- the greatest number of moves of one step
 abbrev pub most_moves : ℕ
-most_moves = 10000
+most_moves = MOVES
 
 -- the moves of one step
 abbrev pub ahead : Program → LocalState → Ahead

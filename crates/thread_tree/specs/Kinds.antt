@@ -14,16 +14,17 @@ use Rattle.thread_tree.specs.declared.token.Word.{Word}
 use Rattle.thread_tree.specs.declared.token.Word.TheVariants as word
 use Rattle.thread_tree.specs.Program.{Program}
 use Rattle.thread_tree.specs.Pieces.{Piece, named, valued, whom, itemized, applied, word_of, pieces}
+use Rattle.thread_tree.specs.declared.kinds.TheConstants.{ATOMIC, TURN, EACH_GIVEN}
 
 -- the kinds of what isn't a call
 abbrev pub turn_kind : ℕ
-turn_kind = 14
+turn_kind = TURN
 
 abbrev pub end_kind : ℕ
 end_kind = 15
 
 abbrev pub atomic_kind : ℕ
-atomic_kind = 16
+atomic_kind = ATOMIC
 
 -- the kind of a call by its word
 abbrev pub kind_of_word : Word → ℕ
@@ -69,11 +70,11 @@ results =
 
 -- how many results an action has; an atomic block adds the words that it gives
 abbrev pub result_count : ℕ → ℕ → ℕ
-result_count kind given = slice_index results (kind - 1) + (if kind == 16 then given else 0)
+result_count kind given = slice_index results (kind - 1) + (if kind == atomic_kind then given else 0)
 
 -- whether an action leaves no record: a turn of a persistent loop, and the end of a thread
 abbrev pub is_unrecorded : ℕ → Bool
-is_unrecorded kind = kind == 14 || kind == 15
+is_unrecorded kind = kind == turn_kind || kind == end_kind
 
 -- the words of an action's record: one for its kind and one for each result
 abbrev pub record_words_of : ℕ → ℕ → ℕ
@@ -81,7 +82,7 @@ record_words_of kind given = if is_unrecorded kind then 0 else 1 + result_count 
 
 -- the first word of an action's record; it tells how many words an atomic block gives
 abbrev pub kind_word : ℕ → ℕ → ℕ
-kind_word kind given = if kind == 16 then 16 + 256 * given else kind
+kind_word kind given = if kind == atomic_kind then atomic_kind + EACH_GIVEN * given else kind
 
 -- an action of a thread: its kind, the words that it gives if it is an atomic block, the
 -- expressions in it in order of the text, and the names that take its results

@@ -3,6 +3,7 @@ use Rattle.std.specs.Prelude.{◌≡◌, ℕ, ◌≤◌, ◌<◌, ◌==◌, ◌^
 use Rattle.thread_tree.specs.Program.{Program, Kind, Queue, Semaphore, Template}
 use Rattle.thread_tree.specs.Actions.{actions, loops}
 use Rattle.thread_tree.specs.Need.{Fits, IsSmall, need_of_body, callees}
+use Rattle.thread_tree.specs.declared.limits.TheConstants.{ITEMS, DECLARED, TARGETS, ROWS, LOOPS, START_VALUES}
 
 -- the type of a name
 abbrev pub kind_named : Program → ℕ → Option Kind
@@ -15,7 +16,7 @@ template_named p name = find (λ template. template.name == name) p.templates
 -- a queue holds 1 to 48 items, and its channel is 0 to 15
 pub record IsFitQueue (queue : Queue) : Type 0 where
   pub least : 1 ≤ queue.capacity
-  pub most : queue.capacity ≤ 48
+  pub most : queue.capacity ≤ ITEMS
   pub channel : IfSome queue.channel (λ channel. channel ≤ 15)
 
 -- a semaphore's maximum is 1 to 65,535, and it begins with no more
@@ -33,22 +34,22 @@ pub record IsFitTemplate (template : Template) : Type 0 where
 pub record IsWithinLimits (p : Program) : Type 0 where
   pub kinds : length p.kinds ≤ 32
   pub fields : All (λ kind. length kind.fields ≤ 10) p.kinds
-  pub objects : length p.objects ≤ 64
+  pub objects : length p.objects ≤ DECLARED
   pub object_kinds : All (λ o. IsSome (kind_named p o.kind)) p.objects
-  pub queues : length p.queues ≤ 16
+  pub queues : length p.queues ≤ TARGETS
   pub each_queue : All IsFitQueue p.queues
-  pub semaphores : length p.semaphores ≤ 16
+  pub semaphores : length p.semaphores ≤ TARGETS
   pub each_semaphore : All IsFitSemaphore p.semaphores
-  pub functions : length p.functions ≤ 64
+  pub functions : length p.functions ≤ DECLARED
   pub function_parameters : All (λ f. length f.parameters ≤ 8) p.functions
   pub templates : length p.templates ≤ 32
   pub each_template : All IsFitTemplate p.templates
-  pub starts : length p.starts ≤ 16
+  pub starts : length p.starts ≤ ROWS
   pub start_templates : All (λ s. IsSome (template_named p s.template)) p.starts
   pub start_arguments :
       All (λ s. IfSome (template_named p s.template) (λ t. length t.parameters ≡ length s.arguments)) p.starts
-  pub loop_count : length (loops p) ≤ 64
-  pub scopes : All (λ spot. length spot.scope ≤ 16) (loops p)
+  pub loop_count : length (loops p) ≤ LOOPS
+  pub scopes : All (λ spot. length spot.scope ≤ START_VALUES) (loops p)
   pub needs : Fits p
 
 -- what `check` promises of a program that runs: its numbers are within the limits, each body stays within those of

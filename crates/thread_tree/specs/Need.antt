@@ -9,6 +9,7 @@ use Rattle.thread_tree.specs.declared.transaction.TBlock.{TBlock, fold-TBlock}
 use Rattle.thread_tree.specs.declared.transaction.TStmt.TheOpen.{TStmt-F, TBlock-F}
 use Rattle.thread_tree.specs.declared.transaction.TStmt.TheOpen as tstmt
 use Rattle.thread_tree.specs.Program.{Program, Function}
+use Rattle.thread_tree.specs.declared.limits.TheConstants.{LOCALS, BLOCKS}
 
 -- the most locals beside those in scope before, and the most blocks beside those open before
 pub record Need : Type 0 where
@@ -126,8 +127,8 @@ callees p = needs_of (λ name. nothing) p.functions
 
 -- at most 48 locals at once, and 24 blocks
 pub record IsSmall (need : Need) : Type 0 where
-  pub locals : need.locals ≤ 48
-  pub blocks : need.blocks ≤ 24
+  pub locals : need.locals ≤ LOCALS
+  pub blocks : need.blocks ≤ BLOCKS
 
 -- each function has the need that its callers count
 abbrev pub HasItsNeed : Program → Function → Type 0

@@ -4,12 +4,24 @@ ghost use Rattle.thread_tree.specs.Kinds.{kind_of_call, result_count};
 
 use crate::Call;
 
+/// The kind of a print.
+pub const PRINT: u32 = 1;
+
+/// The kind of an `atomic` block.
+pub const ATOMIC: u32 = 16;
+
+/// What each word that an `atomic` block gives adds to the first word of its record.
+pub const EACH_GIVEN: u32 = 256;
+
+/// The kind of a turn of a persistent loop.
+pub const TURN: u32 = 14;
+
 /// The number of a call's kind, from 1 to 13 (docs/RECORDS.md).
 pub fn kind_of_call(call: &Call) -> u32
     ensures kind { result ≡ kind_of_call call.now }
 {
     match call {
-        Call::Print(_) => 1,
+        Call::Print(_) => PRINT,
         Call::Spawn(..) => 2,
         Call::Delete(_) => 3,
         Call::Delay(_) => 4,
@@ -35,7 +47,7 @@ pub fn result_count(kind: u32, given: u32) -> u32
     match kind {
         4 | 12 | 14 | 15 => 0,
         8 => 2,
-        16 => 1 + given,
+        ATOMIC => 1 + given,
         0..=13 => 1,
         _ => 0,
     }

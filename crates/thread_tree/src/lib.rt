@@ -10,6 +10,7 @@ mod boxed;
 mod expr;
 mod few;
 mod kinds;
+mod limits;
 mod list;
 mod local;
 mod name;
@@ -27,7 +28,11 @@ pub use block::{Block, Stmt};
 pub use boxed::Box;
 pub use expr::{Expr, FieldOf, Op};
 pub use few::Few;
-pub use kinds::{kind_of_call, result_count};
+pub use kinds::{ATOMIC, EACH_GIVEN, PRINT, TURN, kind_of_call, result_count};
+pub use limits::{
+    BLOCKS, CONSOLE_BYTES, DECLARED, ITEMS, LOCALS, LOOPS, MOVES, OPERATIONS, RECORD_WORDS, ROWS,
+    START_VALUES, TARGETS,
+};
 pub use list::List;
 pub use local::Local;
 pub use name::{Name, Text};

@@ -1,5 +1,6 @@
 -- What the crates above may cite of these proofs: laws, and sets of laws for `using`.
-pub use Rattle.undo_journal.proofs.Undone.{durable-at_rest, undone-at_rest, IsJournalled-at_rest}
+pub use Rattle.undo_journal.proofs.Restoring.{KeepNone}
+pub use Rattle.undo_journal.proofs.Undone.{durable-at_rest, undone-at_rest, IsJournalled-at_rest, undone_first, undone_none}
 pub use Rattle.undo_journal.proofs.Lending.{IsLent-same, IsLent-then, IsWithin-none, IsWithin-more, IsWithin-then, IsShort-IsWithin}
 pub use Rattle.undo_journal.proofs.Outside.{outside-plain}
 use Rattle.undo_journal.proofs.Lending.{IsShort-more, IsWithin-same}

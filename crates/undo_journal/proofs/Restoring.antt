@@ -1,6 +1,6 @@
 -- Restoring entries: which writes it lets through, and which it undoes.
-use Rattle.std.proofs.Common.{◌≡◌, ◌≢◌, ◌∙◌, ℕ, zero, suc, ◌+◌, ◌*◌, ◌<◌, ◌≤◌, List, inl, inr, refl, sym, ap, subst, arith, add-one, slice_set}
-use Rattle.std.proofs.lemmas.List.{set_comm, set-set, get_or-set_other}
+use Rattle.std.proofs.Common.{◌≡◌, ◌≢◌, ◌∙◌, ℕ, zero, suc, ◌+◌, ◌*◌, ◌<◌, ◌≤◌, List, length, inl, inr, refl, sym, ap, subst, arith, add-one, slice_index, slice_set}
+use Rattle.std.proofs.lemmas.List.{set_comm, set-set, get_or-set_other, get_or-set_same, length-set}
 use Rattle.std.proofs.lemmas.Bool.{cases_eq}
 use Rattle.undo_journal.specs.Undo.{entry_address, entry_value, restored, IsPlain}
 
@@ -92,3 +92,59 @@ restored-set_named (suc k) i words at value plain lt named =
           lower
           (entry_address-set i words last old (behind_fewer (suc i) (suc k) last (omega arith) last_behind) ∙ named))
     ])
+
+-- none of the first k entries keeps the word at this address
+abbrev pub KeepNone : List ℕ → ℕ → ℕ → Type 0
+KeepNone words k at = (i : ℕ) → i < k → entry_address words i ≢ at
+
+-- the words with entry k restored
+abbrev next : List ℕ → ℕ → List ℕ
+next words k = slice_set words (entry_address words k) (entry_value words k)
+
+-- restoring entry k leaves the addresses up to its own
+next_address : (k i : ℕ) (words : List ℕ) → i ≤ k → ArePlain words (suc k) → entry_address (next words k) i ≡ entry_address words i
+next_address k i words le plain = entry_address-set i words (entry_address words k) (entry_value words k)
+    (plain_behind (suc i) (entry_address words k) (omega (arith, le, plain.few)) (plain.each k (omega arith)))
+
+-- and the old values
+next_value : (k i : ℕ) (words : List ℕ) → i ≤ k → ArePlain words (suc k) → entry_value (next words k) i ≡ entry_value words i
+next_value k i words le plain = entry_value-set i words (entry_address words k) (entry_value words k)
+    (plain_behind (suc i) (entry_address words k) (omega (arith, le, plain.few)) (plain.each k (omega arith)))
+
+-- so those before it are plain as before
+next_plain : (k : ℕ) (words : List ℕ) → ArePlain words (suc k) → ArePlain (next words k) k
+next_plain k words plain = ArePlain-set k words (entry_address words k) (entry_value words k)
+    (plain_behind k (entry_address words k) (omega (arith, plain.few)) (plain.each k (omega arith))) (ArePlain-fewer k words plain)
+
+-- and none of them keeps what none kept
+next_none : (k j : ℕ) (words : List ℕ) (at : ℕ) → j ≤ k → ArePlain words (suc k) → KeepNone words j at → KeepNone (next words k) j at
+next_none k j words at le plain none i lt e = none i lt (sym (next_address k i words (omega (arith, le, lt)) plain) ∙ e)
+
+-- a word that no entry keeps stays when they are restored
+pub restored_none : (k : ℕ) (words : List ℕ) (at : ℕ) → ArePlain words k → KeepNone words k at → slice_index (restored k words) at ≡ slice_index words at
+unfolding restored
+restored_none zero words at plain none = refl
+restored_none (suc k) words at plain none =
+    restored_none k (next words k) at (next_plain k words plain)
+    (next_none k k words at (omega arith) plain (λ i lt. none i (omega (arith, lt))))
+    ∙ get_or-set_other words (entry_address words k) at (entry_value words k) 0 (λ e. none k (omega arith) (sym e))
+
+-- a word comes to the old value in the first entry that keeps it
+pub restored_first : (k j : ℕ) (words : List ℕ) (at : ℕ) → ArePlain words k → j < k → entry_address words j ≡ at → KeepNone words j at → at < length words → slice_index (restored k words) at ≡ entry_value words j
+unfolding restored
+restored_first zero j words at plain lt named none within = absurd (omega (arith, lt))
+restored_first (suc k) j words at plain lt named none within = elim (cases_eq j k) [
+  | inl last ↦
+      restored_none k (next words k) at (next_plain k words plain)
+      (next_none k k words at (omega arith) plain (λ i less. none i (omega (arith, less, last))))
+      ∙ ap (slice_index (next words k)) (sym named ∙ ap (entry_address words) last)
+      ∙ get_or-set_same words (entry_address words k) (entry_value words k) 0 (let same : entry_address words k ≡ at = ap (entry_address words) (sym last) ∙ named in omega (arith, same, within))
+      ∙ ap (entry_value words) (sym last)
+  | inr before ↦
+      let less : j < k = omega (arith, lt, before) in
+      let long = length-set words (entry_address words k) (entry_value words k) in
+      restored_first k j (next words k) at (next_plain k words plain) less
+      (next_address k j words (omega (arith, less)) plain ∙ named)
+      (next_none k j words at (omega (arith, less)) plain none) (omega (arith, within, long))
+      ∙ next_value k j words (omega (arith, less)) plain
+]

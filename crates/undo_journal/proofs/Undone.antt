@@ -4,7 +4,7 @@ use Rattle.std.proofs.lemmas.List.{set-get_or, get_or-set_other, get_or-set_same
 use Rattle.std.proofs.lemmas.Bool.{cases_eq}
 use Rattle.std.proofs.lemmas.Bool.Decides.{nat_tests}
 use Rattle.undo_journal.specs.Undo.{magic, entries, entry_address, entry_value, restored, undone, outside, durable, with_word, IsPlain, IsJournalled, IsAtRest, IsLast}
-use Rattle.undo_journal.proofs.Restoring.{ArePlain, IsBehind, restored-set, restored-set_named, entry_address-set, entry_value-set, restored-suc, plain_behind, behind_fewer, ArePlain-set, ArePlain-fewer}
+use Rattle.undo_journal.proofs.Restoring.{ArePlain, IsBehind, restored-set, restored-set_named, entry_address-set, entry_value-set, restored-suc, plain_behind, behind_fewer, KeepNone, restored_none, restored_first}
 use Rattle.undo_journal.proofs.Outside.{outside-set_count, outside-set_entry, outside-set_plain, outside-zero}
 
 -- the entries of a well formed journal are those that word 4 counts
@@ -180,16 +180,9 @@ IsAtRest-set_count words formatted sized =
     let ne0 : ◌≢◌ {A = ℕ} 0 4 = omega arith in
     record { formatted = get_or-set_other words 4 0 0 0 ne0 ∙ formatted; empty = get_or-set_same words 4 0 0 lt }
 
--- restoring changes no word that no entry names
+-- restoring changes no word that isn't plain
 pub slice_index-restored : (k : ℕ) (words : List ℕ) (at : ℕ) → ArePlain words k → (IsPlain at → ⊥) → slice_index (restored k words) at ≡ slice_index words at
-unfolding restored
-slice_index-restored zero words at plain beside = refl
-slice_index-restored (suc k) words at plain beside =
-    let last = entry_address words k in
-    let old = entry_value words k in
-    let last_plain = plain.each k (omega arith) in
-    let ne : at ≢ last = λ e. beside (subst IsPlain (sym e) last_plain) in
-    slice_index-restored k (slice_set words last old) at (ArePlain-set k words last old (plain_behind k last (omega (arith, plain.few)) last_plain) (ArePlain-fewer k words plain)) beside ∙ get_or-set_other words last at old 0 ne
+slice_index-restored k words at plain beside = restored_none k words at plain (λ i lt e. beside (subst IsPlain e (plain.each i lt)))
 
 -- the undone words of a well formed journal are at rest
 pub IsAtRest-undone : (words : List ℕ) → IsJournalled words → length words ≡ 16384 → IsAtRest (undone words)
@@ -222,3 +215,23 @@ durable-zero words journalled =
 pub durable-undone : (words : List ℕ) → IsJournalled words → length words ≡ 16384 → durable (undone words) ≡ durable words
 unfolding durable
 durable-undone words journalled sized = ap outside (undone-undone words journalled sized)
+
+-- a word other than the count comes to the restored one
+undone-beside : (words : List ℕ) (at : ℕ) → IsJournalled words → at ≢ 4 → slice_index (undone words) at ≡ slice_index (restored (slice_index words 4) words) at
+unfolding restored
+undone-beside words at journalled other = elim (cases_eq (slice_index words 4) 0) [
+  | inl empty ↦ rw (undone-at_rest words (record { formatted = journalled.formatted; empty = empty }), empty)
+  | inr some ↦ rw (undone-journalled words journalled (omega arith)) (get_or-set_other (restored (slice_index words 4) words) 4 at 0 0 other)
+]
+
+-- with the journal undone a word is the old value in the first entry that keeps it
+pub undone_first : (words : List ℕ) (j at : ℕ) → IsJournalled words → length words ≡ 16384 → j < slice_index words 4 → entry_address words j ≡ at → KeepNone words j at → slice_index (undone words) at ≡ entry_value words j
+undone_first words j at journalled sized lt named none =
+    let plain : IsPlain at = subst IsPlain named (journalled.plain j lt) in
+    undone-beside words at journalled plain.not_count
+    ∙ restored_first (slice_index words 4) j words at (are_plain words journalled) lt named none (omega (arith, sized, plain.within))
+
+-- and stays where no entry keeps it
+pub undone_none : (words : List ℕ) (at : ℕ) → IsJournalled words → at ≢ 4 → KeepNone words (slice_index words 4) at → slice_index (undone words) at ≡ slice_index words at
+undone_none words at journalled other none =
+    undone-beside words at journalled other ∙ restored_none (slice_index words 4) words at (are_plain words journalled) none

@@ -2,6 +2,7 @@
 ghost use Rattle.std.specs.Prelude.{◌≡◌};
 ghost use Rattle.undo_journal.specs.Undo.{IsAtRest, room_of};
 
+use crate::layout::CAPACITY;
 use crate::open_transaction::Open;
 use crate::words::Words;
 use nv_memory::Nv;
@@ -44,7 +45,7 @@ impl<N: Nv> Idle<N> {
     pub fn begin(self) -> Open<N>
         ensures same { result ≡ self }
         ensures at_rest { IsAtRest (N.words result) }
-        ensures room { room_of (N.words result) ≡ 1280 }
+        ensures room { room_of (N.words result) ≡ CAPACITY }
     {
         let Idle { nv } = self;
         Open::of(nv)

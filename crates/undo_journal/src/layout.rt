@@ -1,6 +1,9 @@
 // The words of the journal.
 
-/// Word 0 of a formatted device.
+/// The word that tells whether a device is formatted.
+pub const MAGIC_WORD: u32 = 0;
+
+/// That word of a formatted device.
 pub const MAGIC: u32 = 1_229_870_129;
 
 /// The word that counts the entries.

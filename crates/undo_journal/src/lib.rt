@@ -5,6 +5,7 @@
 #![tactic(auto)]
 
 mod dark;
+mod entry;
 mod idle;
 mod layout;
 mod open_transaction;
@@ -13,8 +14,9 @@ mod words;
 mod writes;
 
 pub use dark::Dark;
+pub use entry::{Entry, entry_of};
 pub use idle::Idle;
-pub use layout::MAGIC;
+pub use layout::{CAPACITY, COUNT, ENTRIES, MAGIC, MAGIC_WORD};
 pub use open_transaction::Open;
 pub use settling::settle;
 pub use words::Words;

@@ -4,6 +4,7 @@ ghost use Rattle.nv_memory.specs.Budget.{spent};
 ghost use Rattle.undo_journal.specs.Undo.{entry_address, IsPlain, IsJournalled, IsAtRest, IsReady, IsLast, restored, durable, outside, with_word, room_of};
 ghost use Rattle.undo_journal.specs.Lending.{IsLent};
 
+use crate::entry::entry_of;
 use crate::layout::{COUNT, ENTRIES};
 use nv_memory::{Cut, Nv};
 
@@ -95,9 +96,8 @@ pub(crate) fn restore<N: Nv>(nv: &mut N, entry: u32) -> Result<(), Cut>
     ensures left { N.left nv.new ≡ spent (N.left nv.old) 1 }
     ensures lent { IsLent N.Nv nv.old nv.new }
 {
-    let address = nv.read(ENTRIES + 2 * entry);
-    let value = nv.read(ENTRIES + 2 * entry + 1);
-    nv.write(address, value)?;
+    let kept = entry_of(nv, entry);
+    nv.write(kept.address, kept.value)?;
     Ok(())
 }
 

@@ -15,6 +15,7 @@ use Rattle.user_transactions.specs.declared.tx_end.TxEnd.{TxEnd}
 use Rattle.user_transactions.specs.declared.work.Work.{Work}
 use Rattle.user_transactions.specs.Fates.{behind_level}
 use Rattle.user_transactions.specs.Works.{work_of, end_from, IsEnd}
+use Rattle.thread_tree.specs.declared.limits.TheConstants.{LOCALS}
 
 -- a loop's test: its block is next, or what follows, or its fault
 abbrev pub Tested : Program → Decoded → Work → Work → Expr → TBlock → Result Bool ℕ → Type 0
@@ -45,7 +46,7 @@ whole level block keep rest = things block ++ behind_level level block keep rest
 
 -- how many locals of a block may be left when it was left: only the whole of an `atomic` block leaves its own
 abbrev pub kept_by : Level → ℕ
-kept_by Body = 48
+kept_by Body = LOCALS
 kept_by Inner = 0
 kept_by (Turn e) = 0
 

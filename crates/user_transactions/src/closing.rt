@@ -13,9 +13,10 @@ use crate::level::Level;
 use crate::moves::value;
 use crate::tx_end::TxEnd;
 use crate::work::Work;
+use kernel_model::TOO_MANY_MOVES;
 use nv_memory::Nv;
 use thread_check::Checked;
-use thread_tree::{Expr, TBlock};
+use thread_tree::{Expr, LOCALS, OPERATIONS, TBlock};
 use undo_journal::Open;
 
 // Whether a loop's block is next.
@@ -28,7 +29,7 @@ fn test<N: Nv>(
 ) -> Result<bool, u32>
     ensures tested { Tested (program_of program.now) (image_in (N.words tx.now)) work.old work.new e.now block.now result }
     ensures kept { work.new ≡ record work.old { operations = work.new.operations } }
-    ensures few { work.old.operations ≤ 64 → work.new.operations ≤ 64 }
+    ensures few { work.old.operations ≤ OPERATIONS → work.new.operations ≤ OPERATIONS }
     ensures more { work.old.operations ≤ work.new.operations }
 {
     let _ = block;
@@ -54,11 +55,11 @@ fn again<N: Nv>(
     ensures closed { Closed (program_of program.now) (image_in (N.words tx.now)) work.old (λ rest. Test e.now block.now ∷ rest) (level.Turn e.entry) block.now work.new result }
     ensures same { length work.new.locals.items ≡ length work.old.locals.items }
     ensures moves { work.new.moves ≤ work.old.moves }
-    ensures few { work.old.operations ≤ 64 → work.new.operations ≤ 64 }
+    ensures few { work.old.operations ≤ OPERATIONS → work.new.operations ≤ OPERATIONS }
     ensures more { work.old.operations ≤ work.new.operations }
 {
     if work.moves == 0 {
-        return Some(Fate::Ended(TxEnd::Fault(1)));
+        return Some(Fate::Ended(TxEnd::Fault(TOO_MANY_MOVES)));
     }
     work.moves -= 1;
     match test(tx, program, work, e, block) {
@@ -82,11 +83,11 @@ pub(crate) fn close<N: Nv>(
     level: Level<'_>,
     keep: usize,
 ) -> Option<Fate>
-    requires locals { length work.old.locals.items ≤ 48 }
+    requires locals { length work.old.locals.items ≤ LOCALS }
     ensures closed { Closed (program_of program.now) (image_in (N.words tx.now)) work.old (behind_level level.entry block.now keep) level.entry block.now work.new result }
     ensures closes { Closes level.entry keep (length work.new.locals.items) result }
     ensures spends { Spends work.old.moves work.new.moves result }
-    ensures few { work.old.operations ≤ 64 → work.new.operations ≤ 64 }
+    ensures few { work.old.operations ≤ OPERATIONS → work.new.operations ≤ OPERATIONS }
     ensures more { work.old.operations ≤ work.new.operations }
 {
     match level {

@@ -8,9 +8,10 @@ ghost use Rattle.user_transactions.specs.Seen.{seen_read};
 
 use crate::references::reference_of;
 use crate::values::{apply, lookup};
+use kernel_model::{BAD_REFERENCE, TOO_MANY_OPERATIONS};
 use persistent_objects::BadReference;
 use thread_check::Checked;
-use thread_tree::{Expr, FieldOf, Local};
+use thread_tree::{Expr, FieldOf, Local, OPERATIONS};
 use undo_journal::Words;
 
 /// A value that was read, and how many operations were made so far.
@@ -30,19 +31,19 @@ fn load<W: Words>(
     operations: u32,
 ) -> Result<Found, u32>
     ensures read { seen_read result ≡ load (program_of program.now) (objects_of (program_of program.now) (image_in (W.present words.now))) locals.now field operations }
-    ensures few { operations ≤ 64 → IfOk result (λ r. r.operations ≤ 64) }
+    ensures few { operations ≤ OPERATIONS → IfOk result (λ r. r.operations ≤ OPERATIONS) }
     ensures more { IfOk result (λ r. operations ≤ r.operations) }
 {
     let at = reference_of(program, locals, field);
-    if operations >= 64 {
-        return Err(2);
+    if operations >= OPERATIONS {
+        return Err(TOO_MANY_OPERATIONS);
     }
     match persistent_objects::load(words, program, at.place, at.kind, at.field) {
         Ok(value) => Ok(Found {
             value,
             operations: operations + 1,
         }),
-        Err(BadReference) => Err(3),
+        Err(BadReference) => Err(BAD_REFERENCE),
     }
 }
 
@@ -56,7 +57,7 @@ pub(crate) fn read<W: Words>(
     operations: u32,
 ) -> Result<Found, u32>
     ensures read { seen_read result ≡ read (program_of program.now) (objects_of (program_of program.now) (image_in (W.present words.now))) locals.now expr.now operations }
-    ensures few { operations ≤ 64 → IfOk result (λ r. r.operations ≤ 64) }
+    ensures few { operations ≤ OPERATIONS → IfOk result (λ r. r.operations ≤ OPERATIONS) }
     ensures more { IfOk result (λ r. operations ≤ r.operations) }
 {
     match expr {

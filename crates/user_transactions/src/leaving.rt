@@ -10,12 +10,14 @@ use crate::fate::Fate;
 use crate::level::Level;
 use crate::tx_end::TxEnd;
 use crate::work::Work;
+use kernel_model::TOO_MANY_MOVES;
+use thread_tree::LOCALS;
 
 /// Leaves a block by a `break`.
 #[tactic(auto, using(crate::proofs::LeaveLaws::taken_laws))]
 pub(crate) fn leave(work: &mut Work, level: Level<'_>, keep: usize) -> Fate
     ensures left { (p : Program) (d : Decoded) (block : Block) → Leaves p d work.old level.entry block keep work.new result }
-    ensures shrunk { length work.old.locals.items ≤ 48 → Shrinks level.entry keep (length work.new.locals.items) result }
+    ensures shrunk { length work.old.locals.items ≤ LOCALS → Shrinks level.entry keep (length work.new.locals.items) result }
     ensures few { length work.new.locals.items ≤ length work.old.locals.items }
     ensures moves { work.new.moves ≡ work.old.moves }
     ensures operations { work.new.operations ≡ work.old.operations }
@@ -44,7 +46,7 @@ pub(crate) fn end_block(work: &mut Work, keep: usize) -> Option<TxEnd>
     ensures operations { work.new.operations ≡ work.old.operations }
 {
     if work.moves == 0 {
-        return Some(TxEnd::Fault(1));
+        return Some(TxEnd::Fault(TOO_MANY_MOVES));
     }
     work.moves -= 1;
     work.locals.truncate(keep);

@@ -19,7 +19,7 @@ use arrayvec::ArrayVec;
 use nv_memory::{Cut, Nv};
 use persistent_objects::{BadReference, Stop, field_count};
 use thread_check::Checked;
-use thread_tree::{At, Expr, FieldOf, Local};
+use thread_tree::{At, Expr, FieldOf, LOCALS, Local, OPERATIONS};
 use undo_journal::Open;
 
 /// The value of an expression, whose operations are counted; or the fault of a field that it reads.
@@ -31,7 +31,7 @@ pub(crate) fn value<N: Nv>(
 ) -> Result<u32, u32>
     ensures value { IsRead (read (program_of program.now) (objects_of (program_of program.now) (image_in (N.words tx.now))) work.old.locals.items e.now work.old.operations) work.new result }
     ensures kept { work.new ≡ record work.old { operations = work.new.operations } }
-    ensures few { work.old.operations ≤ 64 → work.new.operations ≤ 64 }
+    ensures few { work.old.operations ≤ OPERATIONS → work.new.operations ≤ OPERATIONS }
     ensures more { work.old.operations ≤ work.new.operations }
 {
     match read(tx, program, work.locals.as_slice(), e, work.operations) {
@@ -45,7 +45,7 @@ pub(crate) fn value<N: Nv>(
 
 // Gives the local of this name a new value; nothing changes where none has the name.
 #[tactic(auto, using(crate::proofs::LocalLaws::with_value_laws))]
-fn assign(locals: &mut ArrayVec<Local, 48>, name: u32, value: u32)
+fn assign(locals: &mut ArrayVec<Local, LOCALS>, name: u32, value: u32)
     ensures assigned { locals.new.items ≡ with_value locals.old.items name value }
 {
     for at in 0..locals.len() {
@@ -64,11 +64,11 @@ pub(crate) fn declare<N: Nv>(
     at: At,
     e: &Expr,
 ) -> Result<(), u32>
-    requires room { length work.old.locals.items < 48 }
+    requires room { length work.old.locals.items < LOCALS }
     ensures moved { Moved (program_of program.now) (image_in (N.words tx.now)) work.old (image_in (N.words tx.now)) work.new (tstmt.Let at e.now) result }
     ensures grown { length work.new.locals.items ≤ length work.old.locals.items + 1 }
     ensures moves { work.new.moves ≡ work.old.moves }
-    ensures few { work.old.operations ≤ 64 → work.new.operations ≤ 64 }
+    ensures few { work.old.operations ≤ OPERATIONS → work.new.operations ≤ OPERATIONS }
     ensures more { work.old.operations ≤ work.new.operations }
 {
     let value = value(tx, program, work, e)?;
@@ -91,7 +91,7 @@ pub(crate) fn set<N: Nv>(
     ensures moved { Moved (program_of program.now) (image_in (N.words tx.now)) work.old (image_in (N.words tx.now)) work.new (tstmt.Set at e.now) result }
     ensures grown { length work.new.locals.items ≤ length work.old.locals.items }
     ensures moves { work.new.moves ≡ work.old.moves }
-    ensures few { work.old.operations ≤ 64 → work.new.operations ≤ 64 }
+    ensures few { work.old.operations ≤ OPERATIONS → work.new.operations ≤ OPERATIONS }
     ensures more { work.old.operations ≤ work.new.operations }
 {
     let value = value(tx, program, work, e)?;
@@ -109,19 +109,19 @@ pub(crate) fn store_at<N: Nv>(
     value: u32,
 ) -> Result<Option<u32>, Cut>
     requires objects { AreSoundObjects (program_of program.now) (objects_of (program_of program.now) (image_in (N.words tx.old))) }
-    requires few { work.old.operations ≤ 64 }
-    requires room { 64 ≤ room_of (N.words tx.old) + work.old.operations }
+    requires few { work.old.operations ≤ OPERATIONS }
+    requires room { OPERATIONS ≤ room_of (N.words tx.old) + work.old.operations }
     ensures stored { IfOk result (λ fault. Stored (program_of program.now) (image_in (N.words tx.old)) work.old (image_in (N.words tx.new)) work.new field value fault) }
     ensures kept { work.new ≡ record work.old { operations = work.new.operations } }
-    ensures few { work.new.operations ≤ 64 }
+    ensures few { work.new.operations ≤ OPERATIONS }
     ensures more { work.old.operations ≤ work.new.operations }
     ensures keeps { OnOk result (Keeps N.Nv (program_of program.now) tx.old tx.new (work.new.operations - work.old.operations)) }
-    ensures cut { IsErr result → IsShort (N.left tx.old) (4 * (64 - work.old.operations)) }
+    ensures cut { IsErr result → IsShort (N.left tx.old) (4 * (OPERATIONS - work.old.operations)) }
     ensures dark { OnErr result (N.left tx.new ≡ Some 0) }
     ensures lent { IsLent N.Nv tx.old tx.new }
 {
     let at = reference_of(program, work.locals.as_slice(), field);
-    if work.operations >= 64 {
+    if work.operations >= OPERATIONS {
         return Ok(Some(2));
     }
     if at.field >= field_count(program, at.kind) {

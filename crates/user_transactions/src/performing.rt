@@ -33,7 +33,7 @@ use arrayvec::ArrayVec;
 use nv_memory::{Cut, Nv};
 use thread_check::Checked;
 use thread_machine::Ctx;
-use thread_tree::{Local, TBlock};
+use thread_tree::{LOCALS, Local, MOVES, OPERATIONS, TBlock};
 use undo_journal::Open;
 
 // The first three of so many zeros.
@@ -51,24 +51,24 @@ fn zeros(count: usize) -> ArrayVec<u32, 3>
 fn perform_body<N: Nv>(
     tx: &mut Open<N>,
     program: &Checked,
-    locals: ArrayVec<Local, 48>,
+    locals: ArrayVec<Local, LOCALS>,
     body: &TBlock,
     given: usize,
 ) -> Result<TxEnd, Cut>
     requires served { IsTrue (is_served_tblock body.now) }
     requires objects { AreSoundObjects (program_of program.now) (objects_of (program_of program.now) (image_in (N.words tx.old))) }
-    requires room { 64 ≤ room_of (N.words tx.old) }
-    requires locals { length locals.items + (need_of_tblock body.now).locals ≤ 48 }
+    requires room { OPERATIONS ≤ room_of (N.words tx.old) }
+    requires locals { length locals.items + (need_of_tblock body.now).locals ≤ LOCALS }
     ensures ended { IfOk result (λ end. IsEnd (program_of program.now) end (image_in (N.words tx.new)) (performed (program_of program.now) (objects_of (program_of program.now) (image_in (N.words tx.old))) locals.items given body.now)) }
-    ensures keeps { OnOk result (Keeps N.Nv (program_of program.now) tx.old tx.new 64) }
-    ensures cut { IsErr result → IsShort (N.left tx.old) 256 }
+    ensures keeps { OnOk result (Keeps N.Nv (program_of program.now) tx.old tx.new OPERATIONS) }
+    ensures cut { IsErr result → IsShort (N.left tx.old) (4 * OPERATIONS) }
     ensures dark { OnErr result (N.left tx.new ≡ Some 0) }
     ensures lent { IsLent N.Nv tx.old tx.new }
 {
     let mut work = Work {
         locals,
         operations: 0,
-        moves: 10_000,
+        moves: MOVES,
     };
     match run(tx, program, &mut work, body, Level::Body)? {
         Fate::Went => Ok(TxEnd::Gave(zeros(given))),

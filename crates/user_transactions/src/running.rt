@@ -21,7 +21,7 @@ use crate::step::Step;
 use crate::work::Work;
 use nv_memory::{Cut, Nv};
 use thread_check::Checked;
-use thread_tree::{Expr, TBlock};
+use thread_tree::{Expr, LOCALS, OPERATIONS, TBlock};
 use undo_journal::Open;
 
 // What a block in a statement is, of a loop with this test if there is one.
@@ -44,16 +44,16 @@ pub(crate) fn run<N: Nv>(
 ) -> Result<Fate, Cut>
     requires served { IsTrue (is_served_tblock block.now) }
     requires objects { AreSoundObjects (program_of program.now) (objects_of (program_of program.now) (image_in (N.words tx.old))) }
-    requires few { work.old.operations ≤ 64 }
-    requires room { 64 ≤ room_of (N.words tx.old) + work.old.operations }
-    requires locals { length work.old.locals.items + (need_of_tblock block.now).locals ≤ 48 }
+    requires few { work.old.operations ≤ OPERATIONS }
+    requires room { OPERATIONS ≤ room_of (N.words tx.old) + work.old.operations }
+    requires locals { length work.old.locals.items + (need_of_tblock block.now).locals ≤ LOCALS }
     ensures ran { IfOk result (λ fate. Ran (program_of program.now) (image_in (N.words tx.old)) work.old (whole level.entry block.now (length work.old.locals.items)) (image_in (N.words tx.new)) work.new fate) }
     ensures shrunk { IfOk result (λ fate. Shrinks level.entry (length work.old.locals.items) (length work.new.locals.items) fate) }
     ensures moves { work.new.moves ≤ work.old.moves }
-    ensures few { work.new.operations ≤ 64 }
+    ensures few { work.new.operations ≤ OPERATIONS }
     ensures more { work.old.operations ≤ work.new.operations }
     ensures keeps { OnOk result (Keeps N.Nv (program_of program.now) tx.old tx.new (work.new.operations - work.old.operations)) }
-    ensures cut { IsErr result → IsShort (N.left tx.old) (4 * (64 - work.old.operations)) }
+    ensures cut { IsErr result → IsShort (N.left tx.old) (4 * (OPERATIONS - work.old.operations)) }
     ensures dark { OnErr result (N.left tx.new ≡ Some 0) }
     ensures lent { IsLent N.Nv tx.old tx.new }
 {

@@ -19,7 +19,7 @@ use crate::tx_end::TxEnd;
 use crate::work::Work;
 use nv_memory::{Cut, Nv};
 use thread_check::Checked;
-use thread_tree::{Expr, FieldOf, TBlock, TStmt};
+use thread_tree::{Expr, FieldOf, LOCALS, OPERATIONS, TBlock, TStmt};
 use undo_journal::Open;
 
 // An `if`: the block that it chooses is entered, if there is one.
@@ -36,7 +36,7 @@ fn branch<'a, N: Nv>(
     ensures stepped { Stepped (program_of program.now) (image_in (N.words tx.now)) work.old (image_in (N.words tx.now)) work.new (tstmt.If e.now block.now other.now) result }
     ensures enters { Enters (tstmt.If e.now block.now other.now) result }
     ensures kept { work.new ≡ record work.old { operations = work.new.operations } }
-    ensures few { work.old.operations ≤ 64 → work.new.operations ≤ 64 }
+    ensures few { work.old.operations ≤ OPERATIONS → work.new.operations ≤ OPERATIONS }
     ensures more { work.old.operations ≤ work.new.operations }
 {
     match value(tx, program, work, e) {
@@ -66,7 +66,7 @@ fn turn<'a, N: Nv>(
     ensures stepped { Stepped (program_of program.now) (image_in (N.words tx.now)) work.old (image_in (N.words tx.now)) work.new (tstmt.While e.now block.now) result }
     ensures enters { Enters (tstmt.While e.now block.now) result }
     ensures kept { work.new ≡ record work.old { operations = work.new.operations } }
-    ensures few { work.old.operations ≤ 64 → work.new.operations ≤ 64 }
+    ensures few { work.old.operations ≤ OPERATIONS → work.new.operations ≤ OPERATIONS }
     ensures more { work.old.operations ≤ work.new.operations }
 {
     match value(tx, program, work, e) {
@@ -89,15 +89,15 @@ fn store<'a, N: Nv>(
     e: &Expr,
 ) -> Result<Step<'a>, Cut>
     requires objects { AreSoundObjects (program_of program.now) (objects_of (program_of program.now) (image_in (N.words tx.old))) }
-    requires few { work.old.operations ≤ 64 }
-    requires room { 64 ≤ room_of (N.words tx.old) + work.old.operations }
+    requires few { work.old.operations ≤ OPERATIONS }
+    requires room { OPERATIONS ≤ room_of (N.words tx.old) + work.old.operations }
     ensures stepped { IfOk result (λ step. Stepped (program_of program.now) (image_in (N.words tx.old)) work.old (image_in (N.words tx.new)) work.new (tstmt.Store field e.now) step) }
     ensures enters { IfOk result (λ step. Enters (tstmt.Store field e.now) step) }
     ensures kept { work.new ≡ record work.old { operations = work.new.operations } }
-    ensures few { work.new.operations ≤ 64 }
+    ensures few { work.new.operations ≤ OPERATIONS }
     ensures more { work.old.operations ≤ work.new.operations }
     ensures keeps { OnOk result (Keeps N.Nv (program_of program.now) tx.old tx.new (work.new.operations - work.old.operations)) }
-    ensures cut { IsErr result → IsShort (N.left tx.old) (4 * (64 - work.old.operations)) }
+    ensures cut { IsErr result → IsShort (N.left tx.old) (4 * (OPERATIONS - work.old.operations)) }
     ensures dark { OnErr result (N.left tx.new ≡ Some 0) }
     ensures lent { IsLent N.Nv tx.old tx.new }
 {
@@ -121,17 +121,17 @@ pub(crate) fn step<'a, N: Nv>(
     requires served { IsTrue (is_served_tlayer is_served_tblock (out-TStmt statement.now)) }
     requires a_move { ends (out-TStmt statement.now) ≡ false }
     requires objects { AreSoundObjects (program_of program.now) (objects_of (program_of program.now) (image_in (N.words tx.old))) }
-    requires few { work.old.operations ≤ 64 }
-    requires room { 64 ≤ room_of (N.words tx.old) + work.old.operations }
-    requires locals { length work.old.locals.items + declares (out-TStmt statement.now) ≤ 48 }
+    requires few { work.old.operations ≤ OPERATIONS }
+    requires room { OPERATIONS ≤ room_of (N.words tx.old) + work.old.operations }
+    requires locals { length work.old.locals.items + declares (out-TStmt statement.now) ≤ LOCALS }
     ensures stepped { IfOk result (λ step. Stepped (program_of program.now) (image_in (N.words tx.old)) work.old (image_in (N.words tx.new)) work.new (out-TStmt statement.now) step) }
     ensures enters { IfOk result (λ step. Enters (out-TStmt statement.now) step) }
     ensures grown { length work.new.locals.items ≤ length work.old.locals.items + declares (out-TStmt statement.now) }
     ensures moves { work.new.moves ≡ work.old.moves }
-    ensures few { work.new.operations ≤ 64 }
+    ensures few { work.new.operations ≤ OPERATIONS }
     ensures more { work.old.operations ≤ work.new.operations }
     ensures keeps { OnOk result (Keeps N.Nv (program_of program.now) tx.old tx.new (work.new.operations - work.old.operations)) }
-    ensures cut { IsErr result → IsShort (N.left tx.old) (4 * (64 - work.old.operations)) }
+    ensures cut { IsErr result → IsShort (N.left tx.old) (4 * (OPERATIONS - work.old.operations)) }
     ensures dark { OnErr result (N.left tx.new ≡ Some 0) }
     ensures lent { IsLent N.Nv tx.old tx.new }
 {

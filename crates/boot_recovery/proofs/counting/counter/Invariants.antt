@@ -1,5 +1,5 @@
-use Rattle.boot_recovery.proofs.CounterLaws.{KeepNone}
+use Rattle.undo_journal.proofs.Callers.{KeepNone}
 use Rattle.boot_recovery.proofs.counting.counter.Given as goal
 
-abbrev pub invariant-loop-entry : goal.invariant-loop-entry
-invariant-loop-entry g l = KeepNone (g.N.Nv.words l.nv) l.entry 1
+abbrev pub invariant-loop-number : goal.invariant-loop-number
+invariant-loop-number g l = KeepNone (g.N.Nv.words l.nv) l.number 1

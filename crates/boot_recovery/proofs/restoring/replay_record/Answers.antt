@@ -20,8 +20,8 @@ overflow_add-from g c =
     let low : c.args.from < 256 = omega (arith, fits) in
     omega (arith, low)
 
-pub words_at-results-requires-clause-within : goal.words_at-results-requires-clause-within
-words_at-results-requires-clause-within g c =
+pub words_at-requires-clause-within : goal.words_at-requires-clause-within
+words_at-requires-clause-within g c =
     let turn = one_turn (program_of c.args.program.now) (row_at (image_in (g.W.Words.present c.args.words.now)) c.args.thread) c.args.from _ _ (records_sized (present (g.W.Words.present c.args.words.now)) c.args.thread c.requires.thread) c.requires.some c.requires.more in
     let fits = turn.fits in
     let many = c.result_count-count.ensures.count ∙ ap results_of (c.load.ensures.word ∙ sym (record_word (present (g.W.Words.present c.args.words.now)) c.args.thread c.args.from c.requires.thread (omega (arith, fits)))) in
@@ -33,7 +33,7 @@ replay-requires-clause-action g c =
     let fits = turn.fits in
     let many = c.result_count-count.ensures.count ∙ ap results_of (c.load.ensures.word ∙ sym (record_word (present (g.W.Words.present c.args.words.now)) c.args.thread c.args.from c.requires.thread (omega (arith, fits)))) in
     turn_action (program_of c.args.program.now) (row_at (image_in (g.W.Words.present c.args.words.now)) c.args.thread) c.args.from c.result_count-count.result _ _ _ _ c.as_slice.result.now (records_sized (present (g.W.Words.present c.args.words.now)) c.args.thread c.requires.thread) turn many
-    (c.as_slice.ensures.value ∙ c.words_at-results.ensures.words)
+    (c.as_slice.ensures.value ∙ c.words_at.ensures.words)
 
 pub overflow_add-result : goal.overflow_add-result
 overflow_add-result g c =
@@ -63,4 +63,4 @@ returns-clause-turned g c = λ before known remains.
     let fits = turn.fits in
     let many = c.result_count-count.ensures.count ∙ ap results_of (c.load.ensures.word ∙ sym (record_word (present (g.W.Words.present c.args.words.now)) c.args.thread c.args.from c.requires.thread (omega (arith, fits)))) in
     turned_to (program_of c.args.program.now) (row_at (image_in (g.W.Words.present c.args.words.now)) c.args.thread) c.args.from c.result_count-count.result _ _ before _ _ known c.as_slice.result.now (records_sized (present (g.W.Words.present c.args.words.now)) c.args.thread c.requires.thread) remains c.requires.some many
-    (c.as_slice.ensures.value ∙ c.words_at-results.ensures.words) c.replay.ensures.bound c.replay.ensures.stepped
+    (c.as_slice.ensures.value ∙ c.words_at.ensures.words) c.replay.ensures.bound c.replay.ensures.stepped

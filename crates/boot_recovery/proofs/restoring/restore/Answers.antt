@@ -3,6 +3,9 @@ use Rattle.kernel_image.specs.Decoded.{image_in, row_at}
 use Rattle.boot_recovery.proofs.LifeLaws.{begins, life_starts}
 use Rattle.boot_recovery.proofs.restoring.restore.Goals as goal
 
+pub begin-ctx-requires-clause-few : goal.begin-ctx-requires-clause-few
+begin-ctx-requires-clause-few g c = c.requires.live.1.1.few
+
 pub begin-ctx-requires-clause-starts : goal.begin-ctx-requires-clause-starts
 begin-ctx-requires-clause-starts g c = life_starts (program_of c.args.program.now) (row_at (image_in (g.W.Words.present c.args.words.now)) c.args.thread) c.requires.live.0 c.requires.live.1.1
 

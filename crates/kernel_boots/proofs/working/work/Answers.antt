@@ -8,14 +8,14 @@ use Rattle.kernel_boots.proofs.CourseLaws.{live-counts, next-counts, next-live, 
 use Rattle.kernel_boots.proofs.SpentLaws.{fell-at-most, at-most-then, fell-then, short-then}
 use Rattle.kernel_boots.proofs.working.work.Goals as goal
 
-pub happen-requires-clause-step : goal.happen-requires-clause-step
-happen-requires-clause-step g c =
+pub perform_event-requires-clause-step : goal.perform_event-requires-clause-step
+perform_event-requires-clause-step g c =
     let same = c.loop-event.invariant in
     let is : slice_get (g.W.World.events c.args.world.now) c.loop-event.events ≡ Some c.in-Some.event = told _ _ _ _ _ c.next.ensures.event same.same c.in-Some.is in
     is-step (g.W.World.events c.args.world.now) c.loop-event.events c.in-Some.event c.requires.all_steps is
 
-pub happen-requires-clause-stands : goal.happen-requires-clause-stands
-happen-requires-clause-stands g c =
+pub perform_event-requires-clause-stands : goal.perform_event-requires-clause-stands
+perform_event-requires-clause-stands g c =
     let same = c.loop-event.invariant in
     let K = c.requires.live.0 in
     let on = course (program_of c.args.program.now) K (g.W.World.events c.args.world.now) in
@@ -43,14 +43,14 @@ loop-event-preserved g c =
     let before = same.live c.requires.live.0 c.requires.live.1 in
     let first_many = live-counts counted first d c.loop-event.contexts before in
     let after_it = c.in-Ok.ensures.happened (uncut first d.events) before.stands (omega (arith, first_many, less, same.is, c.requires.few)) in
-    let count = next-counts counted first c.soundness.ensures.counted d e c.loop-event.contexts c.happen.new.contexts c.in-Some.event before after_it in
+    let count = next-counts counted first c.soundness.ensures.counted d e c.loop-event.contexts c.perform_event.new.contexts c.in-Some.event before after_it in
     record {
       at_rest = done.at_rest;
       live = λ K was.
           let on = course p K E in
           let live = same.live K was in
           let many = live-counts counted on d c.loop-event.contexts live in
-          next-live counted on c.soundness.ensures.counted d e c.loop-event.contexts c.happen.new.contexts c.in-Some.event live at
+          next-live counted on c.soundness.ensures.counted d e c.loop-event.contexts c.perform_event.new.contexts c.in-Some.event live at
           (c.in-Ok.ensures.happened (uncut on d.events) live.stands (omega (arith, many, less, same.is, c.requires.few)));
       is = omega (arith, same.is, count);
       same = c.next.ensures.same ∙ same.same;

@@ -25,9 +25,9 @@ overflow_add-words_used-2 g c =
     let few = few-used (program_of c.args.program.now) (image_in (g.N.Nv.words c.args.tx)) c.args.contexts.now a.0 c.args.thread a.1 c.args.ctx (Action c.args.number) a.2 in
     search (rules, few, c.words_used.ensures.used, c.given_by-given.ensures.given, c.requires.few)
 
-pub returns-then-words_used-given-gt-RECORD_ROOM-clause-happened :
-    goal.returns-then-words_used-given-gt-RECORD_ROOM-clause-happened
-returns-then-words_used-given-gt-RECORD_ROOM-clause-happened g c =
+pub returns-then-words_used-given-gt-RECORD_WORDS-clause-happened :
+    goal.returns-then-words_used-given-gt-RECORD_WORDS-clause-happened
+returns-then-words_used-given-gt-RECORD_WORDS-clause-happened g c =
     let p = program_of c.args.program.now in
     let d = image_in (g.N.Nv.words c.args.tx) in
     let t = c.args.thread in
@@ -37,4 +37,4 @@ returns-then-words_used-given-gt-RECORD_ROOM-clause-happened g c =
     (λ next. (K : State) (runner : Thread) → Arrives p d c.args.contexts.now K t runner c.args.ctx (Action c.args.number) → KernelStands p (image_in (g.N.Nv.words next)) c.args.contexts.now (one p K Step))
     c.stop.ensures.stopped
     (λ next image K runner a.
-    stands-no_room p d c.args.contexts.now K t runner c.args.ctx c.args.number h.0 h.1 c.args.to.now h.2 (image_in (g.N.Nv.words next)) c.soundness.ensures.kept c.tree.ensures.within a h.3 h.4 (omega (arith, c.words_used.ensures.used, c.given_by-given.ensures.given, c.if-words_used-given-gt-RECORD_ROOM.true)) image)
+    stands-no_room p d c.args.contexts.now K t runner c.args.ctx c.args.number h.0 h.1 c.args.to.now h.2 (image_in (g.N.Nv.words next)) c.soundness.ensures.kept c.tree.ensures.within a h.3 h.4 (omega (arith, c.words_used.ensures.used, c.given_by-given.ensures.given, c.if-words_used-given-gt-RECORD_WORDS.true)) image)

@@ -1,5 +1,6 @@
 -- The laws of replay.
 use Rattle.kernel_model.proofs.ReliveLemmas.{born-relived, served-relived, opened-relived, finished-relived, turned-relived, relived-placed}
+use Rattle.kernel_model.proofs.WrittenLemmas.{relived-arrival}
 use Rattle.kernel_model.proofs.laws.replay.Goals as goal
 
 pub returns-clause-born : goal.returns-clause-born
@@ -19,3 +20,6 @@ returns-clause-turned c = turned-relived
 
 pub returns-clause-placed : goal.returns-clause-placed
 returns-clause-placed c = relived-placed
+
+pub returns-clause-arrives : goal.returns-clause-arrives
+returns-clause-arrives c = relived-arrival

@@ -4,6 +4,8 @@ use Rattle.replay_list.proofs.LifeLaws.{life_more, life_kept, agrees_recorded, a
 use Rattle.replay_list.proofs.CountLaws.{counts_records}
 use Rattle.replay_list.proofs.RowLaws.{row_live, context_live, context_served, context_ended, records_live}
 use Rattle.replay_list.proofs.KeptLaws.{kept_at_rest, kept_durable, kept_counter}
+use Rattle.replay_list.proofs.StrictLaws.{few_values, past_stamp, known_states, known_waits, has_headers}
+use Rattle.replay_list.proofs.ZeroLaws.{unread_zero}
 use Rattle.kernel_model.specs.Relived.{record_of}
 use Rattle.replay_list.specs.Records.{start_in}
 use Rattle.replay_list.specs.Stands.{IsRow}
@@ -70,3 +72,21 @@ returns-clause-kept_events c = kept_counter
 
 pub returns-clause-counted : goal.returns-clause-counted
 returns-clause-counted c = records_live
+
+pub returns-clause-few : goal.returns-clause-few
+returns-clause-few c = few_values
+
+pub returns-clause-past : goal.returns-clause-past
+returns-clause-past c = past_stamp
+
+pub returns-clause-states : goal.returns-clause-states
+returns-clause-states c = known_states
+
+pub returns-clause-headers : goal.returns-clause-headers
+returns-clause-headers c = has_headers
+
+pub returns-clause-waits : goal.returns-clause-waits
+returns-clause-waits c = known_waits
+
+pub returns-clause-unread : goal.returns-clause-unread
+returns-clause-unread c = unread_zero

@@ -1,7 +1,10 @@
 -- What a served program gives.
-use Rattle.served_program.proofs.DeclarationLaws.{served_one_start, served_no_queues, served_no_semaphores, served_no_loops, served_one_field, served_no_parameters}
-use Rattle.served_program.proofs.ArrivalLaws.{arrives_served}
+use Rattle.served_program.proofs.DeclarationLaws.{served_one_start, served_no_queues, served_no_semaphores, served_one_field, served_no_parameters}
+use Rattle.served_program.proofs.ActionLaws.{served_action, arrives_served, served_no_loops}
 use Rattle.served_program.proofs.laws.served_laws.Goals as goal
+
+pub returns-clause-acts : goal.returns-clause-acts
+returns-clause-acts c = served_action
 
 pub returns-clause-arrives : goal.returns-clause-arrives
 returns-clause-arrives c = arrives_served

@@ -1,4 +1,4 @@
-use Rattle.std.proofs.Common.{◌≡◌, ◌+◌, length, take}
+use Rattle.std.proofs.Common.{◌≡◌, length, take}
 use Rattle.thread_tree.specs.LocalState.{named}
 use Rattle.thread_machine.specs.Seeking.{names_in}
 use Rattle.thread_machine.proofs.at_loop.with_values.Given as goal

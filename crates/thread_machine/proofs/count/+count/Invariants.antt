@@ -1,5 +1,5 @@
 use Rattle.std.proofs.Common.{◌≡◌, ◌<◌, ◌^◌, length, min, take}
-use Rattle.thread_machine.specs.ActionLists.{actions_in_turn}
+use Rattle.thread_check.specs.ActionLists.{actions_in_turn}
 use Rattle.thread_machine.proofs.count.+count.Given as goal
 
 abbrev pub invariant-count_before-loop-at : goal.invariant-count_before-loop-at

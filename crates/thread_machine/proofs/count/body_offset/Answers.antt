@@ -3,12 +3,14 @@ use Rattle.std.proofs.Common.{◌≡◌, ◌+◌, ◌∙◌, drop, sym, ap, arit
 use Rattle.thread_machine.specs.Seen.{seen}
 use Rattle.thread_machine.proofs.BodyLemmas.{body_among, body_passed, body_behind}
 use Rattle.thread_machine.proofs.CountLemmas.{body_part, body_part_none, wrapped_offset}
+use Rattle.thread_machine.proofs.PlaceLemmas.{body_spots, body_spots_none}
 use Rattle.thread_machine.proofs.count.body_offset.Goals as goal
 use Rattle.thread_machine.proofs.count.body_offset.Goals.{in-Some+else-left-eq0, in-None}
 
 pub returns-then-left-eq0 : goal.returns-then-left-eq0
 returns-then-left-eq0 c = record {
   part = body_part c.args.tree.now c.loop-at.at c.args.number c.loop-at.left c.loop-at.offset c.get-decl.result.now (seen c.in-Some.field-0) c.loop-at.invariant.0 c.get-decl.ensures (sym c.in-Some.ensures.found) c.if-left-eq0.true c.loop-at.invariant.1;
+  spots = body_spots c.args.tree.now c.loop-at.at c.args.number c.loop-at.left c.loop-at.offset c.get-decl.result.now (seen c.in-Some.field-0) c.loop-at.invariant.0 c.get-decl.ensures (sym c.in-Some.ensures.found) c.if-left-eq0.true c.loop-at.invariant.1;
 }
 
 pub loop-at-preserved : goal.loop-at-preserved
@@ -25,4 +27,5 @@ loop-at-preserved c =
 pub returns : goal.returns
 returns c = record {
   part = body_part_none c.args.tree.now c.loop-at.at c.args.number c.loop-at.left c.loop-at.invariant.0 (omega (arith, c.loop-at-test.false));
+  spots = body_spots_none c.args.tree.now c.loop-at.at c.args.number c.loop-at.left c.loop-at.invariant.0 (omega (arith, c.loop-at-test.false));
 }

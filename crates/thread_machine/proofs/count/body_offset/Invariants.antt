@@ -1,5 +1,5 @@
 use Rattle.std.proofs.Common.{◌≡◌, length, take, drop}
-use Rattle.thread_machine.specs.ActionLists.{actions_of_declarations}
+use Rattle.thread_check.specs.ActionLists.{actions_of_declarations}
 use Rattle.thread_machine.proofs.BodyLemmas.{body_among}
 use Rattle.thread_machine.proofs.count.body_offset.Given as goal
 

@@ -13,4 +13,4 @@ pub returns-in-Ok-clause-stored : goal.returns-in-Ok-clause-stored
 returns-in-Ok-clause-stored g c todo rest =
     let past = subst (λ (n : ℕ). n ≤ c.reference_of-at.result.field) c.field_count.ensures.count c.if-at-field_count.true in
     let refers = c.reference_of-at.ensures.reference ∙ ap (λ (locals : List Local). reference_of (program_of c.args.program.now) locals c.args.field) c.as_slice.ensures.value in
-    stored_past (program_of c.args.program.now) (work_of (program_of c.args.program.now) (image_in (g.N.Nv.words c.args.tx.now)) c.args.work.now todo) rest c.args.field c.args.value c.in-Ok.field-0 (seen_reference c.reference_of-at.result) refers c.if-work-ge64.false c.requires.objects c.in-Ok.ensures.found past
+    stored_past (program_of c.args.program.now) (work_of (program_of c.args.program.now) (image_in (g.N.Nv.words c.args.tx.now)) c.args.work.now todo) rest c.args.field c.args.value c.in-Ok.field-0 (seen_reference c.reference_of-at.result) refers c.if-work-ge-OPERATIONS.false c.requires.objects c.in-Ok.ensures.found past

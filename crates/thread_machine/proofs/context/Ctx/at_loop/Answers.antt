@@ -1,6 +1,7 @@
 -- The loop is found, and its block entered with the values.
 use Rattle.std.proofs.Common.{◌≡◌, ◌∙◌, Some, length, refl, ap, sym, subst, arith}
 use Rattle.std.specs.Prelude.{slice_get, IfSome}
+use Rattle.thread_tree.specs.declared.block.Stmt.TheOpen as stmt
 use Rattle.thread_tree.specs.Actions.{Spot, inside, loops}
 use Rattle.thread_tree.specs.LocalState.{named}
 use Rattle.thread_tree.specs.Program.{program_of}
@@ -9,7 +10,8 @@ use Rattle.thread_machine.specs.Reached.{IsContext, Reached}
 use Rattle.thread_machine.specs.Reached.Reached.{Entered}
 use Rattle.thread_machine.specs.Seeking.{names_in}
 use Rattle.thread_machine.proofs.BindLemmas.{some_and}
-use Rattle.thread_machine.proofs.LoopLemmas.{inside_is, sought_there}
+use Rattle.thread_machine.proofs.KeepLemmas.{declares}
+use Rattle.thread_machine.proofs.LoopLemmas.{at_loop_scoped, inside_is, sought_there}
 use Rattle.thread_machine.proofs.RoomLemmas.{room_for_cursor}
 use Rattle.thread_machine.proofs.SkipLemmas.{way_counted}
 use Rattle.thread_machine.proofs.context.Ctx.at_loop.Goals as goal
@@ -61,6 +63,10 @@ returns-clause-context c =
     (record {
       reached = subst (Reached p) (sym is) (Entered p c.args.number t.0 c.args.values.now found t.2);
       counted = c.enter.ensures.counted p (record { within = omega (arith, here.way.base); waiting = (way_counted p c.seek.new.self here.way).waiting });
+      scoped =
+          c.enter.ensures.scoped p t.0.statement here.here (declares t.0.statement (stmt.Ploop here.place here.block) here.loop)
+          (at_loop_scoped p c.seek.new.self c.with_values-ctx.result.items t.0 c.args.values.now here
+          (c.with_values-ctx.ensures.values ∙ ap (λ xs. named (names_in xs) c.args.values.now) c.as_slice.ensures.value) t.2);
     })
 
 pub returns-clause-inside : goal.returns-clause-inside

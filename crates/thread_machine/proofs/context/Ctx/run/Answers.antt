@@ -44,6 +44,7 @@ loop-at-preserved g c =
       record {
         reached = Moved p (local_of p c.loop-at.self) (local_of p c.step.new.self) c.loop-at.invariant.0.reached c.if-not-step.ensures.moved;
         counted = c.if-not-step.ensures.counted;
+        scoped = c.if-not-step.ensures.scoped c.loop-at.invariant.0.scoped;
       },
       omega (arith, c.tick.ensures.counted, c.loop-at.invariant.1),
       ahead_more p (local_of p c.args.self.now) (local_of p c.loop-at.self) (local_of p c.step.new.self) c.loop-at.at (10000 - c.loop-at.at) (10000 - (c.loop-at.at + 1)) (ahead p (local_of p c.args.self.now)) (omega (arith, c.loop-at-test.true)) c.if-not-step.ensures.moved c.loop-at.invariant.2,
